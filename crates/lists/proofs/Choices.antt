@@ -1,0 +1,26 @@
+-- Choices and cases, taken apart. Assumes nothing.
+use Prim.Native.Nat.{ℕ, zero, suc, _<_, _≤_}
+use native.Mathlib.Nat.{lt-of-not-le}
+use native.Mathlib.Decide.{decLe}
+use native.Mathlib.Omega.{arith}
+use mathlib.Core.Path.{_≡_, refl}
+use mathlib.Core.Bool.{Bool, true, false, cond}
+
+pub cond-elim : {X : Type 0} (P : X → Type 0) (b : Bool) (x y : X) → (b ≡ true → P x) → (b ≡ false → P y) → P (cond b x y)
+cond-elim P true x y f g = f refl
+cond-elim P false x y f g = g refl
+
+pub cond-ext : {X : Type 0} (b : Bool) (x y u v : X) → (b ≡ true → x ≡ u) → (b ≡ false → y ≡ v) → cond b x y ≡ cond b u v
+cond-ext true x y u v f g = f refl
+cond-ext false x y u v f g = g refl
+
+pub split-eq : {X : Type 0} (a : ℕ) → (a ≡ 0 → X) → ((a ≡ 0 → ⊥) → X) → X
+split-eq zero f g = f refl
+split-eq (suc a) f g = g (λ e. omega (arith, e))
+
+pub split-lt : {X : Type 0} (a b : ℕ) → (a < b → X) → (b ≤ a → X) → X
+split-lt a b f g = elim (decLe b a) [ yes h ↦ g h | no h ↦ f (lt-of-not-le h) ]
+
+pub split-bool : {X : Type 0} (b : Bool) → (b ≡ true → X) → (b ≡ false → X) → X
+split-bool true f g = f refl
+split-bool false f g = g refl

@@ -1,0 +1,35 @@
+// The record format: one record of 16 bytes, a whole file read into tables with its refusals, and a graph written back.
+// Document 01's sections "Records" and "Refusal numbers" stand in `rules`; here they are met.
+pub mod fields;
+pub mod reader;
+pub mod writer;
+
+use limits::ARMS;
+use limits::BLOCKS;
+
+// The blocks by number: where each is listed, counted from 1 (0: not listed), and what its record says.
+// `listed` has the numbers by listed place.
+pub struct Blocks {
+    pub place: [u16; BLOCKS],
+    pub listed: [u16; BLOCKS],
+    pub marks: [u8; BLOCKS],
+    pub ends: [u8; BLOCKS],
+    pub weight: [u64; BLOCKS],
+}
+
+// The arms in file order, and by block number the first that leaves it and how many do.
+pub struct Arms {
+    pub first: [u16; BLOCKS],
+    pub count: [u16; BLOCKS],
+    pub to: [u16; ARMS],
+    pub args: [u8; ARMS],
+    pub weight: [u64; ARMS],
+}
+
+// The working state: how many blocks and arms there are, and the tables.
+pub struct Graph {
+    pub blocks: usize,
+    pub arms: usize,
+    pub b: Blocks,
+    pub a: Arms,
+}

@@ -1,0 +1,4 @@
+pub mod Layouts
+pub mod Verdicts
+pub mod Listed
+pub mod Grouped

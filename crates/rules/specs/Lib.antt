@@ -1,0 +1,4 @@
+pub mod Graph
+pub mod Records
+pub mod Refusals
+pub mod Outcome

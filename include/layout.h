@@ -1,0 +1,58 @@
+/* Block layout: the proved calls, for C and C++ on x86-64 Linux.
+ *
+ * Link target/staticlib/liblayout.a, which `rt staticlib layout` makes. A call keeps nothing
+ * between calls and may be made from any number of threads at once.
+ */
+#ifndef LAYOUT_H
+#define LAYOUT_H
+
+#include <stddef.h>
+#include <stdint.h>
+
+#ifdef __cplusplus
+extern "C" {
+#endif
+
+/* What every call answers. After a refusal only the fields that say so are other than 0. */
+typedef struct Answer {
+    uint64_t refusal; /* 0, or the number of the refusal, 1 to 10 */
+    uint64_t place;   /* a refusal's record index; 0 for refusals 1, 2 and 10, and on success */
+    uint64_t needed;  /* the bytes that the result needs, for refusal 10 only */
+    uint64_t written; /* the bytes written to the front of the lent output */
+    uint64_t blocks;  /* the blocks of the result, without bridges */
+    uint64_t bridges; /* the bridges made; writing back makes none */
+    uint64_t moved;   /* the arms that forwarding moved; writing back moves none */
+    uint64_t split;   /* the place of the cold part's first block, or 256 for none */
+} Answer;
+
+/* The refusals, in the order in which they are looked for:
+ *
+ *    1  length over 8,192
+ *    2  length not a multiple of 16
+ *    then records in file order, a block by 3, 4, 5, 6 and an arm by 3, 7, 4, 8:
+ *    3  a field outside the record layout
+ *    4  a block after an arm, or an arm whose from-block is listed before the last arm's
+ *    5  block number listed before
+ *    6  second entry mark
+ *    7  from or to not listed before this record
+ *    8  385th arm
+ *    then:
+ *    9  two arms with end 0 or 1; three or more with end 0, 1, 2 or 6
+ *   10  lent output shorter than the result
+ */
+
+/* Reads a file of records and writes it back.
+ *
+ * input, input_len  the file; any bytes of any length are answered
+ * out, out_len      the lent output: on success the file is written to its first bytes and the
+ *                   rest is kept, and on a refusal no byte changes
+ *
+ * Neither pointer may be null, also where its length is 0, and the two must not overlap.
+ */
+Answer layout_write_back(const uint8_t *input, size_t input_len, uint8_t *out, size_t out_len);
+
+#ifdef __cplusplus
+}
+#endif
+
+#endif

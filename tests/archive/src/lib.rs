@@ -1,0 +1,11 @@
+//! The proved archive through its C interface.
+//!
+//! The archive is for x86-64 alone, so the calls are made by a small C program that links it and
+//! is asked over pipes. On another processor the program runs under the emulator of the kit that
+//! made the archive; the tests are the same.
+
+mod caller;
+mod program;
+
+pub use caller::Caller;
+pub use program::{Program, compiled_by_cc, repository};
