@@ -11,10 +11,10 @@ use Rattle.rules.specs.Graph.{Graph}
 use Rattle.rules.specs.Records.{records, graphOf, written}
 use Rattle.rules.specs.Refusals.{verdict}
 use Rattle.rules.specs.Outcome.{refusal, refused, writtenBack, backOf, writeBack}
-use Rattle.records.specs.declared.reader.Reading.{Reading}
+use Rattle.reader.specs.declared.Reading.{Reading}
 use Rattle.records.specs.Tables.{tabled, Holds}
-use Rattle.records.specs.Reads.{Reads}
-use Rattle.records.proofs.PanicLaws.{upTo-length}
+use Rattle.reader.specs.Reads.{Reads}
+use Rattle.records.proofs.TableLaws.{upTo-length}
 
 module _ (s d : List ℕ) (r : Reading) (h : Reads s r) where
   pub back-refused : (r .verdict .number ≡ 0 → ⊥) → (refusal (r .verdict .number) (r .verdict .place) 0 ≡ writeBack s d .answer) × (d ≡ writeBack s d .lent)

@@ -2,8 +2,6 @@
 // answers what `rules` says in Outcome, for all bytes and all lent lengths.
 use limits::NO_SPLIT;
 use limits::RECORD;
-use records::reader;
-use records::writer;
 use rules::Answer;
 ghost use mathlib.Core.Path.{_≡_};
 ghost use Rattle.rules.specs.Outcome.{refusal, writtenBack, writeBack};

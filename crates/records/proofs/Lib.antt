@@ -1,6 +1,3 @@
 pub mod Laws
-pub mod BlockLaws
-pub mod ArmLaws
-pub mod PanicLaws
-pub mod ReadLaws
-pub mod WriteLaws
+pub mod FaultLaws
+pub mod TableLaws

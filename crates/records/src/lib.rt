@@ -1,8 +1,7 @@
-// The record format: one record of 16 bytes, a whole file read into tables with its refusals, and a graph written back.
-// Document 01's sections "Records" and "Refusal numbers" stand in `rules`; here they are met.
+// The record format: one record of 16 bytes, what is refused of it, and the tables that a graph is held in.
+// `reader` fills the tables from a file, and `writer` makes a file of them.
+pub mod faults;
 pub mod fields;
-pub mod reader;
-pub mod writer;
 
 use limits::ARMS;
 use limits::BLOCKS;

@@ -1,0 +1,4 @@
+pub mod BlockLaws
+pub mod ArmLaws
+pub mod PanicLaws
+pub mod ReadLaws

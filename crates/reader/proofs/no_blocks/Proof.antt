@@ -1,0 +1,13 @@
+-- `reader::no_blocks` meets its contract as it stands.
+use mathlib.Core.Path.{refl}
+use Rattle.records.specs.Tables.{noBlocks}
+use borrow.Author.Needs.{needs}
+use Rattle.reader.proofs.no_blocks.Statement.{statement}
+use Rattle.reader.proofs.no_blocks.Tie as tie
+
+returns : tie.Need-returns
+unfolding noBlocks
+returns c = refl
+
+pub no-blocks-spec : {M : Type 1} → statement M
+no-blocks-spec = tie.close (tie.spec returns)
