@@ -6,3 +6,4 @@ pub mod Listed
 pub mod Grouped
 pub mod RoundTrip
 pub mod ReadBack
+pub mod Accepts

@@ -10,7 +10,7 @@ use lib.ListN.{length, getD, take, drop, length-append, length-drop}
 use lib.Seq.{take-all, drop-at, take-append-le, drop-append-le}
 use borrow.Author.Tests.{lt-ltb, le-ltb, lt-leb, eq-eqb, ne-eqb, eqb-true, eqb-false, ltb-true}
 use Rattle.limits.specs.Limits.{size, mostBytes, numbers, mostArms, marksBelow, endsBelow}
-use Rattle.lists.proofs.Choices.{split-bool}
+use Rattle.lists.proofs.Choices.{split-bool, or-false}
 use Rattle.rules.specs.declared.Record.{Record}
 use Rattle.rules.specs.declared.Record.the-variants.{Block, Arm, Outside}
 use Rattle.rules.specs.declared.Verdict.{Verdict}
@@ -42,10 +42,6 @@ withArms l [] = l
 withArms l (b ∷ g) = withArms (withLeaving l (b .number) (b .arms)) g
 
 -- ---- tests
-or-false : (x y : Bool) → x || y ≡ false → (x ≡ false) × (y ≡ false)
-or-false true y e = absurd (true≢false e)
-or-false false y e = (refl, e)
-
 and-false : (x y : Bool) → (x ≡ true → y ≡ false) → x && y ≡ false
 and-false true y h = h refl
 and-false false y h = refl

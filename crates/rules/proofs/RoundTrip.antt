@@ -97,13 +97,13 @@ module _ (p : List ℕ) (long : length p ≡ size) (small : (i : ℕ) → getD p
       (λ z n. absurd (n refl))
 
 -- ---- a file
-take-small : (k : ℕ) (l : List ℕ) → ((i : ℕ) → getD l i 0 < 256) → (i : ℕ) → getD (take k l) i 0 < 256
+pub take-small : (k : ℕ) (l : List ℕ) → ((i : ℕ) → getD l i 0 < 256) → (i : ℕ) → getD (take k l) i 0 < 256
 take-small zero l h i = omega arith
 take-small (suc k) [] h i = omega arith
 take-small (suc k) (x ∷ xs) h zero = h 0
 take-small (suc k) (x ∷ xs) h (suc i) = take-small k xs (λ j. h (suc j)) i
 
-drop-small : (k : ℕ) (l : List ℕ) → ((i : ℕ) → getD l i 0 < 256) → (i : ℕ) → getD (drop k l) i 0 < 256
+pub drop-small : (k : ℕ) (l : List ℕ) → ((i : ℕ) → getD l i 0 < 256) → (i : ℕ) → getD (drop k l) i 0 < 256
 drop-small k l h i = rw (getD-drop k l i 0) (h (k + i))
 
 -- what an accepted file is: short, of whole records, none of them refused
