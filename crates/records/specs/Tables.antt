@@ -18,9 +18,21 @@ unfoldable pub armsFrom : Arms → ℕ → ℕ → List graph.Arm
 armsFrom a f zero = []
 armsFrom a f (suc n) = armAt a f ∷ armsFrom a (suc f) n
 
+-- what is listed, by the tables that its records are made of
+abbrev pub onlyBlocks : List ℕ → List ℕ → List ℕ → List ℕ → Blocks
+onlyBlocks listed marks ends weight = record { place = []; listed = listed; marks = marks; ends = ends; weight = weight }
+
+-- numbers alone
+abbrev pub onlyListed : List ℕ → Blocks
+onlyListed listed = onlyBlocks listed [] [] []
+
 -- arms without the blocks that they leave
 abbrev pub onlyArms : List ℕ → List ℕ → List ℕ → Arms
 onlyArms to args weight = record { first = []; count = []; to = to; args = args; weight = weight }
+
+-- all of the arms' tables
+abbrev pub armTables : List ℕ → List ℕ → List ℕ → List ℕ → List ℕ → Arms
+armTables first count to args weight = record { first = first; count = count; to = to; args = args; weight = weight }
 
 -- the arms that leave block n
 unfoldable pub leaves : Arms → ℕ → List graph.Arm

@@ -3,7 +3,7 @@ use Prim.Native.Nat.{ℕ, zero, suc, _+_, _-_, _*_, _%_, _≤_, _<_}
 use native.Mathlib.Nat.{add-zero, add-suc}
 use native.Mathlib.Numerals.{add-one}
 use native.Mathlib.Omega.{arith}
-use mathlib.Core.Path.{_≡_, refl, sym, ap, subst, _∙_}
+use mathlib.Core.Path.{_≡_, refl, sym, ap, ap₂, subst, _∙_}
 use mathlib.Core.List.{List, [], _∷_, _++_, append-assoc, append-nil}
 use lib.ListN.{length, getD, take, drop, length-append, take-append-drop}
 use lib.Seq.{length-take-le}
@@ -16,7 +16,7 @@ use Rattle.rules.specs.Records.{fields, blockBytes, armBytes, blocksBytes, leav
 use Rattle.rules.proofs.Grouped.{blocks-append, leaving-append, arms-append}
 use Rattle.records.specs.declared.Blocks.{Blocks}
 use Rattle.records.specs.declared.Arms.{Arms}
-use Rattle.records.specs.Tables.{armAt, armsFrom, onlyArms, leaves, blockAt, upTo, noArms}
+use Rattle.records.specs.Tables.{armAt, armsFrom, onlyBlocks, onlyListed, onlyArms, leaves, blockAt, upTo, noArms}
 use Rattle.records.proofs.TableLaws.{arms-more}
 
 -- ---- blocks
@@ -145,13 +145,29 @@ module _ (b : Blocks) (a : Arms) where
       ∙ ap (λ (l : List ℕ). l ++ drop (at + size * count) d) (append-assoc (take k d) (armsBytes (upTo b a i)) ys ∙ ap (λ (l : List ℕ). take k d ++ l) q)
 
 -- ---- blocks and arms
-pub both-parts : (b : Blocks) (a : Arms) (n : ℕ) (d o : List ℕ) → o ≡ blocksBytes (upTo b noArms n) ++ drop (size * n) d
-    → behind (size * n) (armsBytes (upTo b a n)) o ≡ written (upTo b a n) ++ drop (length (written (upTo b a n))) d
+only-blocks : (b : Blocks) (a : Arms) (i : ℕ) → upTo (onlyBlocks (b .listed) (b .marks) (b .ends) (b .weight)) a i ≡ upTo b a i
+unfolding upTo blockAt
+only-blocks b a zero = refl
+only-blocks b a (suc i) = ap (λ (g : Graph). g ++ (blockAt b a (getD (b .listed) i 0) ∷ [])) (only-blocks b a i)
+
+pub only-listed : (b : Blocks) (a : Arms) (i : ℕ) → armsBytes (upTo (onlyListed (b .listed)) a i) ≡ armsBytes (upTo b a i)
+unfolding upTo armsBytes
+only-listed b a zero = refl
+only-listed b a (suc i) =
+    arms-next (onlyListed (b .listed)) a i
+    ∙ ap (λ (l : List ℕ). l ++ leavingBytes (getD (b .listed) i 0) (leaves a (getD (b .listed) i 0))) (only-listed b a i)
+    ∙ sym (arms-next b a i)
+
+pub both-parts : (b : Blocks) (a : Arms) (n : ℕ) (d o : List ℕ)
+    → o ≡ blocksBytes (upTo (onlyBlocks (b .listed) (b .marks) (b .ends) (b .weight)) noArms n) ++ drop (size * n) d
+    → behind (size * n) (armsBytes (upTo (onlyListed (b .listed)) a n)) o ≡ written (upTo b a n) ++ drop (length (written (upTo b a n))) d
 unfolding written
 both-parts b a n d o e =
-    ap (behind (size * n) (armsBytes (upTo b a n))) (e ∙ ap (λ (l : List ℕ). l ++ drop (size * n) d) (blocks-alone b noArms a n))
+    ap₂ (behind (size * n)) (only-listed b a n)
+    (e ∙ ap (λ (l : List ℕ). l ++ drop (size * n) d) (ap blocksBytes (only-blocks b noArms n) ∙ blocks-alone b noArms a n))
     ∙ behind-front (blocksBytes (upTo b a n)) (armsBytes (upTo b a n)) d (size * n) (blocks-length b a n)
 
-pub written-parts : (b : Blocks) (a : Arms) (n : ℕ) → length (written (upTo b a n)) ≡ size * n + length (armsBytes (upTo b a n))
+pub written-parts : (b : Blocks) (a : Arms) (n : ℕ) → length (written (upTo b a n)) ≡ size * n + length (armsBytes (upTo (onlyListed (b .listed)) a n))
 unfolding written
-written-parts b a n = rw length-append (ap (λ (m : ℕ). m + length (armsBytes (upTo b a n))) (blocks-length b a n))
+written-parts b a n =
+    rw (length-append, only-listed b a n) (ap (λ (m : ℕ). m + length (armsBytes (upTo b a n))) (blocks-length b a n))

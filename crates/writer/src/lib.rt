@@ -1,8 +1,7 @@
 // A graph written as records: its blocks as listed, then the arms of each in that order.
 use limits::ARMS;
+use limits::BLOCKS;
 use limits::RECORD;
-use records::Arms;
-use records::Blocks;
 use records::Graph;
 use records::fields;
 ghost use mathlib.Core.Path.{_≡_};
@@ -12,29 +11,34 @@ ghost use lib.ListN.{length, drop};
 ghost use Rattle.limits.specs.Limits.{size, blocks, arms};
 ghost use Rattle.lists.specs.Behind.{behind};
 ghost use Rattle.rules.specs.Records.{blocksBytes, leavingBytes, armsBytes, written};
-ghost use Rattle.records.specs.Tables.{armsFrom, onlyArms, upTo, tabled, noArms, ArmsWithin, Holds};
+ghost use Rattle.records.specs.Tables.{armsFrom, onlyBlocks, onlyListed, onlyArms, armTables, upTo, tabled, noArms, ArmsWithin, Holds};
 
 // The records of the first n listed blocks.
-fn put_blocks(b: Blocks, n: usize, out: &mut [u8])
-    requires { ⌜ (n ≤ blocks) × (size * n ≤ length (now out)) ⌝ }
-    ensures { λ _. ⌜ now (out .exit) ≡ blocksBytes (upTo b noArms n) ++ drop (size * n) (now (out .entry)) ⌝ }
+fn put_blocks<'a>(
+    listed: &'a [u16; BLOCKS],
+    marks: &'a [u8; BLOCKS],
+    ends: &'a [u8; BLOCKS],
+    weight: &'a [u64; BLOCKS],
+    n: usize,
+    out: &mut [u8],
+)
+    requires { ⌜ (n ≤ blocks) × (length (now marks) ≡ blocks) × (length (now ends) ≡ blocks) × (length (now weight) ≡ blocks) ⌝ }
+    requires { ⌜ size * n ≤ length (now out) ⌝ }
+    ensures { λ _. ⌜ now (out .exit) ≡ blocksBytes (upTo (onlyBlocks (now (listed .entry)) (now (marks .entry)) (now (ends .entry)) (now (weight .entry))) noArms n) ++ drop (size * n) (now (out .entry)) ⌝ }
 {
     let mut i: usize = 0;
     while i < n {
-        let k = b.listed[i];
-        let marks = lists::byte_of(&b.marks, k);
-        let end = lists::byte_of(&b.ends, k);
-        let weight = lists::weight_of(&b.weight, k);
+        let k = listed[i];
         let at = RECORD * i;
         fields::encode(
             &mut out[at..at + RECORD],
             1,
             (k % 256) as u8,
-            marks,
-            end,
+            lists::byte_of(marks, k),
+            lists::byte_of(ends, k),
             0,
             0,
-            weight,
+            lists::weight_of(weight, k),
         );
         i = i + 1;
     }
@@ -72,26 +76,29 @@ fn put_leaving<'a>(
 }
 
 // The records of the arms of the first n listed blocks, behind n records.
-fn put_arms(b: Blocks, a: Arms, n: usize, out: &mut [u8])
-    requires { ⌜ (n ≤ blocks) × ArmsWithin a arms × (size * n + length (armsBytes (upTo b a n)) ≤ length (now out)) ⌝ }
-    ensures { λ _. ⌜ now (out .exit) ≡ behind (size * n) (armsBytes (upTo b a n)) (now (out .entry)) ⌝ }
+fn put_arms<'a>(
+    listed: &'a [u16; BLOCKS],
+    first: &'a [u16; BLOCKS],
+    count: &'a [u16; BLOCKS],
+    to: &'a [u16; ARMS],
+    args: &'a [u8; ARMS],
+    weight: &'a [u64; ARMS],
+    n: usize,
+    out: &mut [u8],
+)
+    requires { ⌜ (n ≤ blocks) × (length (now first) ≡ blocks) × (length (now count) ≡ blocks) ⌝ }
+    requires { ⌜ ArmsWithin (armTables (now first) (now count) (now to) (now args) (now weight)) arms ⌝ }
+    requires { ⌜ size * n + length (armsBytes (upTo (onlyListed (now listed)) (armTables (now first) (now count) (now to) (now args) (now weight)) n)) ≤ length (now out) ⌝ }
+    ensures { λ _. ⌜ now (out .exit) ≡ behind (size * n) (armsBytes (upTo (onlyListed (now (listed .entry))) (armTables (now (first .entry)) (now (count .entry)) (now (to .entry)) (now (args .entry)) (now (weight .entry))) n)) (now (out .entry)) ⌝ }
 {
     let mut at: usize = RECORD * n;
     let mut i: usize = 0;
     while i < n {
-        let k = b.listed[i];
-        let first = lists::entry_of(&a.first, k);
-        let count = lists::entry_of(&a.count, k);
-        let next = at + RECORD * count;
-        put_leaving(
-            &a.to,
-            &a.args,
-            &a.weight,
-            k,
-            first,
-            count,
-            &mut out[at..next],
-        );
+        let k = listed[i];
+        let f = lists::entry_of(first, k);
+        let c = lists::entry_of(count, k);
+        let next = at + RECORD * c;
+        put_leaving(to, args, weight, k, f, c, &mut out[at..next]);
         at = next;
         i = i + 1;
     }
@@ -105,6 +112,15 @@ pub fn write(g: Graph, out: &mut [u8])
     let n = g.blocks;
     let b = g.b;
     let a = g.a;
-    put_blocks(b, n, out);
-    put_arms(b, a, n, out);
+    put_blocks(&b.listed, &b.marks, &b.ends, &b.weight, n, out);
+    put_arms(
+        &b.listed,
+        &a.first,
+        &a.count,
+        &a.to,
+        &a.args,
+        &a.weight,
+        n,
+        out,
+    );
 }
