@@ -1,6 +1,6 @@
 -- What each public call answers and what the lent bytes hold at its end: total functions of all its inputs.
 use Prim.Native.Nat.{ℕ}
-use mathlib.Core.Bool.{cond}
+use mathlib.Core.Bool.{Bool, cond}
 use mathlib.Core.List.{List, _++_}
 use lib.Dec.{eqb, ltb}
 use lib.ListN.{length, drop}
@@ -10,6 +10,9 @@ use Rattle.rules.specs.declared.Answer.{Answer}
 use Rattle.rules.specs.Graph.{Graph}
 use Rattle.rules.specs.Records.{records, graphOf, written}
 use Rattle.rules.specs.Refusals.{verdict}
+use Rattle.rules.specs.Forward.{moves}
+use Rattle.rules.specs.Exits.{Place, bridges}
+use Rattle.rules.specs.Laid.{layout, splitOf, laidBytes}
 
 pub record Outcome : Type 0 where
   pub answer : Answer
@@ -39,3 +42,33 @@ backOf g lent =
 unfoldable pub writeBack : List ℕ → List ℕ → Outcome
 writeBack s lent =
     cond (eqb (verdict s .number) 0) (backOf (graphOf (records s)) lent) (refused (verdict s .number) (verdict s .place) 0 lent)
+
+-- ---- laying the blocks
+
+-- "refusal (0 if none), place, bytes needed, bytes written, blocks (without bridges), bridges, arms moved, split place"
+unfoldable pub laid : Bool → Bool → Graph → List Place → ℕ → Answer
+laid forwarding reorder g l bytes =
+    record {
+      refusal = 0;
+      place = 0;
+      needed = 0;
+      written = bytes;
+      blocks = length g;
+      bridges = bridges l;
+      moved = cond forwarding (moves g) 0;
+      split = splitOf forwarding reorder g;
+    }
+
+unfoldable pub layoutOf : Bool → Bool → Graph → List ℕ → Outcome
+layoutOf forwarding reorder g lent =
+    let l = layout forwarding reorder g in
+    let out = laidBytes (splitOf forwarding reorder g) l in
+    let n = length out in
+    cond (ltb (length lent) n) (refused 10 0 n lent) (record { answer = laid forwarding reorder g l n; lent = out ++ drop n lent })
+
+-- "Public calls take bytes and two yes/no choices (forward, reorder)"
+unfoldable pub layoutBlocks : Bool → Bool → List ℕ → List ℕ → Outcome
+layoutBlocks forwarding reorder s lent =
+    cond (eqb (verdict s .number) 0)
+    (layoutOf forwarding reorder (graphOf (records s)) lent)
+    (refused (verdict s .number) (verdict s .place) 0 lent)

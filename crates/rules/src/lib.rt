@@ -35,3 +35,12 @@ pub struct Answer {
     pub moved: u64,
     pub split: u64,
 }
+
+// How a block is left; a bridge takes the arm with this index.
+pub enum Leaving {
+    Nothing,
+    Jump,
+    Branch,
+    Exchanged,
+    Bridge { arm: usize },
+}
