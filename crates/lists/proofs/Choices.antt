@@ -10,10 +10,6 @@ pub cond-elim : {X : Type 0} (P : X → Type 0) (b : Bool) (x y : X) → (b ≡ 
 cond-elim P true x y f g = f refl
 cond-elim P false x y f g = g refl
 
-pub cond-ext : {X : Type 0} (b : Bool) (x y u v : X) → (b ≡ true → x ≡ u) → (b ≡ false → y ≡ v) → cond b x y ≡ cond b u v
-cond-ext true x y u v f g = f refl
-cond-ext false x y u v f g = g refl
-
 pub split-eq : {X : Type 0} (a : ℕ) → (a ≡ 0 → X) → ((a ≡ 0 → ⊥) → X) → X
 split-eq zero f g = f refl
 split-eq (suc a) f g = g (λ e. omega (arith, e))

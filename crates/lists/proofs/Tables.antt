@@ -1,17 +1,17 @@
 -- A list as a table: what a store changes, and how many entries are not zero. Assumes nothing.
-use Prim.Native.Nat.{ℕ, zero, suc, _+_, _<_, _≤_}
-use native.Mathlib.Nat.{le-refl, lt-of-not-le}
+use Prim.Native.Nat.{ℕ, zero, suc, _<_, _≤_}
+use native.Mathlib.Nat.{lt-of-not-le}
 use native.Mathlib.Decide.{decLe}
 use native.Mathlib.Omega.{arith}
 use mathlib.Core.Path.{_≡_, refl, sym, ap, _∙_}
-use mathlib.Core.Bool.{Bool, true, false, cond}
-use mathlib.Core.List.{List, [], _∷_}
+use mathlib.Core.Bool.{cond}
+use mathlib.Core.List.{List}
 use lib.Dec.{eqb}
 use lib.ListN.{length, getD, set, replicate, List·getD-eq-default}
 use lib.Seq.{getD-set-same, getD-set-other}
-use borrow.Author.Tests.{eq-eqb, ne-eqb, eqb-true, eqb-false}
+use borrow.Author.Tests.{eqb-true, eqb-false}
 use Rattle.lists.specs.Marked.{one, marked}
-use Rattle.lists.proofs.Choices.{cond-elim, split-bool}
+use Rattle.lists.proofs.Choices.{cond-elim}
 
 pub set-get : (l : List ℕ) (i v k : ℕ) → i < length l → getD (set l i v) k 0 ≡ cond (eqb k i) v (getD l k 0)
 set-get l i v k h =

@@ -1,6 +1,6 @@
 -- One arm record more: what the tables then say, and how a refusal is the first. Assumes nothing.
-use Prim.Native.Nat.{ℕ, zero, suc, _+_, _-_, _*_, _≤_, _<_}
-use native.Mathlib.Nat.{add-zero, add-suc}
+use Prim.Native.Nat.{ℕ, suc, _+_, _≤_, _<_}
+use native.Mathlib.Nat.{add-zero}
 use native.Mathlib.Numerals.{add-one}
 use native.Mathlib.Omega.{arith}
 use mathlib.Core.Path.{_≡_, refl, sym, ap, subst, _∙_}
@@ -8,11 +8,11 @@ use mathlib.Core.Bool.{Bool, true, false, not, cond, _&&_}
 use mathlib.Core.Logic.{inl, inr}
 use mathlib.Core.List.{List, [], _∷_, _++_, append-nil}
 use lib.Dec.{ltb, leb, eqb}
-use lib.ListN.{length, getD, set, replicate, length-set, length-replicate}
+use lib.ListN.{length, getD, set, length-set, length-replicate}
 use lib.Seq.{getD-set-same, getD-set-other}
 use types.Run.{OneOf}
 use denote.Enum.Declared.{tagOf}
-use borrow.Author.Tests.{lt-ltb, le-ltb, eq-eqb, ne-eqb, eqb-true, eqb-false, ltb-true, ltb-false, leb-false}
+use borrow.Author.Tests.{lt-ltb, eq-eqb, ne-eqb, eqb-true, eqb-false, ltb-true, ltb-false, leb-false}
 use Rattle.limits.specs.Limits.{mostArms, blocks, arms}
 use Rattle.lists.proofs.Choices.{split-eq, split-bool, split-lt}
 use Rattle.lists.proofs.Tables.{zero-get, within}
@@ -21,7 +21,7 @@ use Rattle.rules.specs.declared.Record.the-variants.{Block, Arm, Outside}
 use Rattle.rules.proofs.Record.{the-type}
 use Rattle.rules.specs.Graph as graph
 use Rattle.rules.specs.Records.{recordAt, leaving, armsOf, listing, blocksOf}
-use Rattle.rules.specs.Refusals.{placeOf, entryOf, armCount, lastOf, listed, recordChecks, allChecks, Clear, fine, first}
+use Rattle.rules.specs.Refusals.{placeOf, entryOf, armCount, lastOf, listed, recordChecks, allChecks, fine, first}
 use Rattle.rules.proofs.Verdicts.{first-after, clear-join}
 use Rattle.rules.proofs.Listed.{place-one, none-arms, none-last, late-arms}
 use Rattle.records.specs.declared.Arms.{Arms}

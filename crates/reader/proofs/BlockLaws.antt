@@ -1,19 +1,18 @@
 -- One block record more: what the tables then say, and how a refusal is the first. Assumes nothing.
-use Prim.Native.Nat.{ℕ, zero, suc, _+_, _-_, _*_, _≤_, _<_}
+use Prim.Native.Nat.{ℕ, suc, _+_, _<_}
 use native.Mathlib.Numerals.{add-one}
 use native.Mathlib.Omega.{arith}
 use mathlib.Core.Path.{_≡_, refl, sym, ap, subst, _∙_}
-use mathlib.Core.Bool.{Bool, true, false, not, cond, _&&_}
+use mathlib.Core.Bool.{Bool, true, false, cond, _&&_}
 use mathlib.Core.Logic.{inl, inr}
-use mathlib.Core.List.{List, [], _∷_, _++_}
-use lib.Dec.{ltb, leb, eqb}
-use lib.ListN.{length, getD, set, take, drop, replicate, length-set, length-replicate}
+use mathlib.Core.List.{List, [], _∷_}
+use lib.Dec.{ltb, eqb}
+use lib.ListN.{length, getD, set, length-set, length-replicate}
 use lib.Seq.{getD-set-same, getD-set-other}
 use types.Run.{OneOf}
 use denote.Enum.Declared.{tagOf}
-use borrow.Author.Tests.{lt-ltb, le-ltb, eq-eqb, ne-eqb, eqb-true, eqb-false, ltb-true, ltb-false}
-use Rattle.limits.specs.Limits.{size, numbers, blocks}
-use Rattle.lists.specs.Marked.{marked}
+use borrow.Author.Tests.{ltb-false}
+use Rattle.limits.specs.Limits.{numbers, blocks}
 use Rattle.lists.proofs.Choices.{split-lt}
 use Rattle.lists.proofs.Tables.{set-get, zero-get, marked-none, marked-room, marked-more}
 use Rattle.rules.specs.declared.Record.{Record}
@@ -21,12 +20,12 @@ use Rattle.rules.specs.declared.Record.the-variants.{Block, Arm, Outside}
 use Rattle.rules.specs.declared.Verdict.{Verdict}
 use Rattle.rules.specs.Graph.{isEntry}
 use Rattle.rules.specs.Records.{recordAt, before}
-use Rattle.rules.specs.Refusals.{Check, placeOf, entryOf, armCount, lastOf, listed, recordChecks, allChecks, Clear, fine, first}
+use Rattle.rules.specs.Refusals.{placeOf, entryOf, armCount, listed, recordChecks, allChecks, fine, first}
 use Rattle.rules.proofs.Record.{the-type}
 use Rattle.rules.proofs.Layouts.{block-small}
 use Rattle.rules.proofs.Verdicts.{first-after, clear-join, before-length}
 use Rattle.records.specs.declared.Blocks.{Blocks}
-use Rattle.records.specs.Tables.{noBlocks, BlocksSized, Blank}
+use Rattle.records.specs.Tables.{noBlocks, Blank}
 use Rattle.records.specs.Faults.{blockFault, noBlock, entryNext}
 use Rattle.reader.specs.Reads.{at, IsBlock, saysBlock, BlocksHeld, BlocksReadOf}
 

@@ -1,21 +1,18 @@
 -- 9: what the reader's scan of the listed blocks says of their graph. Assumes nothing.
-use Prim.Native.Nat.{ℕ, zero, suc, _+_, _-_, _≤_, _<_}
+use Prim.Native.Nat.{ℕ, zero, suc, _+_, _-_, _<_}
 use native.Mathlib.Nat.{add-zero, add-suc}
 use native.Mathlib.Omega.{arith}
-use mathlib.Core.Path.{_≡_, refl, sym, ap, subst, _∙_}
-use mathlib.Core.Bool.{Bool, true, false, cond, _&&_, _||_}
+use mathlib.Core.Path.{_≡_, sym, ap, subst, _∙_}
+use mathlib.Core.Bool.{true, false}
 use mathlib.Core.List.{List, [], _∷_, _++_}
-use lib.Dec.{eqb, ltb, leb}
-use lib.ListN.{length, getD, length-append}
-use borrow.Author.Tests.{lt-ltb, le-ltb, le-leb, eq-eqb, ne-eqb}
-use Rattle.lists.proofs.Choices.{split-lt}
+use lib.ListN.{length, getD}
 use Rattle.rules.specs.Graph as graph
 use Rattle.rules.specs.Graph.{Graph}
 use Rattle.rules.specs.Refusals.{Check, check, tooMany, panicChecks, Clear, first}
 use Rattle.rules.proofs.Verdicts.{first-after, first-kept, clear-join}
 use Rattle.records.specs.declared.Blocks.{Blocks}
 use Rattle.records.specs.declared.Arms.{Arms}
-use Rattle.records.specs.Tables.{armsFrom, leaves, blockAt, upTo}
+use Rattle.records.specs.Tables.{leaves, blockAt, upTo}
 use Rattle.records.proofs.TableLaws.{leaves-count, upTo-length}
 use Rattle.reader.specs.Reads.{at, panicsAt, PanicOf}
 

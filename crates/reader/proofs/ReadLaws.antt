@@ -13,8 +13,8 @@ use Rattle.rules.specs.declared.Record.{Record}
 use Rattle.rules.specs.declared.Verdict.{Verdict}
 use Rattle.rules.specs.Graph as graph
 use Rattle.rules.specs.Graph.{Graph}
-use Rattle.rules.specs.Records.{recordOf, recordAt, before, records, armsOf, listing, blocksOf, graphOf, written}
-use Rattle.rules.specs.Refusals.{placeOf, allChecks, panicChecks, Clear, fine, first, verdict}
+use Rattle.rules.specs.Records.{recordOf, recordAt, before, records, armsOf, listing, blocksOf, graphOf}
+use Rattle.rules.specs.Refusals.{allChecks, panicChecks, Clear, fine, first, verdict}
 use Rattle.rules.proofs.Verdicts.{first-clear, before-length, at-record, past-records}
 use Rattle.rules.proofs.Listed.{place-most, unlisted-arms}
 use Rattle.rules.proofs.Grouped.{written-length}
@@ -25,7 +25,7 @@ use Rattle.records.specs.Tables.{leaves, blockAt, upTo, tabled, ArmsSized, Arms
 use Rattle.reader.specs.declared.BlocksRead.{BlocksRead}
 use Rattle.reader.specs.declared.ArmsRead.{ArmsRead}
 use Rattle.reader.specs.declared.Reading.{Reading}
-use Rattle.reader.specs.Reads.{at, IsBlock, saysBlock, onward, Starts, BlocksHeld, BlocksReadOf, ArmsHeld, ArmsReadOf, ArmsAfter, PanicOf, Reads}
+use Rattle.reader.specs.Reads.{at, IsBlock, onward, Starts, BlocksHeld, BlocksReadOf, ArmsHeld, ArmsReadOf, ArmsAfter, PanicOf, Reads}
 use Rattle.records.proofs.TableLaws.{some-arms}
 use Rattle.reader.proofs.PanicLaws.{panics-clear, panics-at}
 

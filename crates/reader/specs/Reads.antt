@@ -1,10 +1,10 @@
 -- What each part of the reader says of the records it has passed; `l` are records, the last first.
-use Prim.Native.Nat.{ℕ, zero, suc, _+_, _*_, _≤_, _<_}
+use Prim.Native.Nat.{ℕ, zero, suc, _+_, _≤_, _<_}
 use mathlib.Core.Path.{_≡_}
 use mathlib.Core.Bool.{Bool, true, false}
-use mathlib.Core.List.{List, [], _∷_}
+use mathlib.Core.List.{List, _∷_}
 use lib.ListN.{length, getD}
-use Rattle.limits.specs.Limits.{size, numbers, mostArms}
+use Rattle.limits.specs.Limits.{numbers, mostArms}
 use Rattle.lists.specs.Marked.{marked}
 use Rattle.rules.specs.Graph as graph
 use Rattle.rules.specs.declared.Record.{Record}
@@ -14,11 +14,10 @@ use Rattle.rules.specs.Records.{recordAt, before, records, graphOf, armsOf, blo
 use Rattle.rules.specs.Refusals.{placeOf, entryOf, armCount, lastOf, tooMany, allChecks, Clear, first, verdict}
 use Rattle.records.specs.declared.Blocks.{Blocks}
 use Rattle.records.specs.declared.Arms.{Arms}
-use Rattle.records.specs.declared.Graph.{Graph}
 use Rattle.reader.specs.declared.BlocksRead.{BlocksRead}
 use Rattle.reader.specs.declared.ArmsRead.{ArmsRead}
 use Rattle.reader.specs.declared.Reading.{Reading}
-use Rattle.records.specs.Tables.{leaves, BlocksSized, ArmsSized, Blank, Holds}
+use Rattle.records.specs.Tables.{leaves, BlocksSized, Blank, Holds}
 
 abbrev pub at : ℕ → ℕ → Verdict
 at number place = record { number = number; place = place }

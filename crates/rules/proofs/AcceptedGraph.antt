@@ -11,7 +11,6 @@ use lib.ListN.{length}
 use Rattle.limits.specs.Limits.{numbers, size}
 use Rattle.rules.specs.declared.Record.{Record}
 use Rattle.rules.specs.declared.Record.the-variants.{Block, Arm, Outside}
-use Rattle.rules.specs.declared.Verdict.{Verdict}
 use Rattle.rules.specs.Graph as graph
 use Rattle.rules.specs.Lists.{mem}
 use Rattle.rules.specs.Graph.{Graph, numbersOf, targets}

@@ -1,15 +1,15 @@
 -- THEOREM accepted-within: the graph of an accepted file is within the limits: numbers distinct and in range, one entry at most,
 -- every arm to a listed block, no block with too many arms. Later theorems take this and nothing else of reading. Assumes nothing.
-use Prim.Native.Nat.{ℕ, zero, suc, _+_, _*_, _/_, _%_, _^_, _≤_, _<_}
+use Prim.Native.Nat.{ℕ, zero, suc, _+_, _*_, _/_, _^_, _≤_, _<_}
 use native.Mathlib.Nat.{lt-of-not-le}
 use native.Mathlib.Decide.{decLe}
 use native.Mathlib.Omega.{arith}
-use mathlib.Core.Path.{_≡_, refl, sym, ap, ap₂, subst, _∙_}
-use mathlib.Core.Bool.{Bool, true, false, not, cond, _&&_, _||_, true≢false}
+use mathlib.Core.Path.{_≡_, refl, sym, ap, subst, _∙_}
+use mathlib.Core.Bool.{Bool, true, false, cond, _&&_, _||_, true≢false}
 use mathlib.Core.List.{List, [], _∷_, _++_, append-nil}
-use lib.Dec.{eqb, ltb, leb}
+use lib.Dec.{eqb, ltb}
 use lib.ListN.{length, getD, take, drop, length-append}
-use borrow.Author.Tests.{lt-ltb, le-ltb, eq-eqb, ne-eqb, eqb-true, eqb-false, ltb-true, ltb-false, leb-false}
+use borrow.Author.Tests.{lt-ltb, eq-eqb, ne-eqb, eqb-false, ltb-true, leb-false}
 use Rattle.limits.specs.Limits.{size, numbers, mostArms, marksBelow, endsBelow}
 use Rattle.lists.proofs.Choices.{cond-elim, split-bool, or-false}
 use Rattle.rules.specs.declared.Record.{Record}
@@ -17,10 +17,10 @@ use Rattle.rules.specs.declared.Record.the-variants.{Block, Arm, Outside
 use Rattle.rules.specs.Graph as graph
 use Rattle.rules.specs.Graph.{Graph, isEntry}
 use Rattle.rules.specs.Records.{little, gapZero, blockOf, armOf, recordOf, fields, blockBytes, armBytes, recordAt, before, records, leaving, armsOf, listing, blocksOf, graphOf, blocksBytes, leavingBytes, armsBytes, written}
-use Rattle.rules.specs.Refusals.{placeOf, entryOf, armCount, lastOf, listed, recordChecks, allChecks, tooMany, panicChecks, Clear, verdict}
+use Rattle.rules.specs.Refusals.{placeOf, entryOf, armCount, listed, recordChecks, allChecks, tooMany, panicChecks, Clear, verdict}
 use Rattle.rules.specs.Within.{has, hasEntry, armTotal, ArmsFit, BlockFits, BlocksFit, Within}
 use Rattle.rules.proofs.Verdicts.{clear-parts}
-use Rattle.rules.proofs.Listed.{block-clear, arm-clear, outside-clear}
+use Rattle.rules.proofs.Listed.{arm-clear, outside-clear}
 use Rattle.rules.proofs.Grouped.{written-length}
 use Rattle.rules.proofs.RoundTrip.{take-small, drop-small, accepted}
 

@@ -224,6 +224,12 @@ kept-targets g o l (spanned m r p q t s k) x i c j = go (λ h. kept-targets g r 
         ⊎-elim (λ z. inl (z .0, inr (z .1), z .2)) (λ z. inr (subst (λ (y : List ℕ). In c y) (sym same) (inr z))) (ih h)
 
 -- ---- the layout of a sound graph
+-- the numbers of the laid graph are those that stand in the places
+pub laid-numbers : (l : List Place) → numbersOf (laidGraph l) ≡ numbersIn l
+unfolding laidGraph numbersOf numbersIn
+laid-numbers [] = refl
+laid-numbers (p ∷ l) = ap (λ (k : List ℕ). p .block .number ∷ k) (laid-numbers l)
+
 module _ (g : Graph) (d : Sound g) (f r : Bool) where
   s : Graph
   s = readied f g
@@ -281,8 +287,4 @@ module _ (g : Graph) (d : Sound g) (f r : Bool) where
       )))
       (λ z. count→In c (numbersIn (layout f r g)) (omega (arith, places-count (layout f r g) c, In→count c (bridgesIn (layout f r g)) z)))
       (kept-targets s (partition s o) (layout f r g) (arms-kept f r g) (q .0) (q .1) c (subst (λ (y : Block). In c (targets y)) (q .2) j)) in
-      subst (λ (l : List ℕ). In c l) (sym (map-map (layout f r g))) k
-    where
-      map-map : (l : List Place) → map (λ (b : Block). b .number) (map (λ (p : Place). p .block) l) ≡ map (λ (p : Place). p .block .number) l
-      map-map [] = refl
-      map-map (p ∷ l) = ap (λ (k : List ℕ). p .block .number ∷ k) (map-map l)
+      subst (λ (l : List ℕ). In c l) (sym (laid-numbers (layout f r g))) k

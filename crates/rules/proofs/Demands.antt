@@ -2,18 +2,18 @@
 -- Assumes nothing.
 use Prim.Native.Nat.{ℕ, _+_, _≤_, _<_}
 use native.Mathlib.Omega.{arith}
-use mathlib.Core.Path.{_≡_}
-use mathlib.Core.Bool.{Bool, true, not}
+use mathlib.Core.Path.{_≡_, sym, subst}
+use mathlib.Core.Bool.{Bool, true, false, not}
 use mathlib.Core.Logic.{_↔_}
 use mathlib.Core.List.{List}
 use mathlib.Core.Option.{some}
 use lib.Dec.{T}
 use lib.ListN.{length, getD}
 use Rattle.limits.specs.Limits.{numbers}
-use Rattle.rules.specs.declared.Verdict.{Verdict}
-use Rattle.rules.specs.Graph.{Graph, noBlock, numbersOf, entry}
+use Rattle.rules.specs.Graph.{Graph, noBlock, blockAt, numbersOf, entry}
 use Rattle.rules.specs.Records.{records, graphOf}
 use Rattle.rules.specs.Refusals.{verdict}
+use Rattle.rules.specs.Forward.{forward}
 use Rattle.rules.specs.Split.{splits, partition}
 use Rattle.rules.specs.Exits.{Place, bridges, laidGraph}
 use Rattle.rules.specs.Heads.{headAt, together, looped}
@@ -22,6 +22,8 @@ use Rattle.rules.proofs.Membership.{In}
 use Rattle.rules.proofs.Counting.{count, Once, In→count}
 use Rattle.rules.proofs.Written.{numbersIn, bridgesIn}
 use Rattle.rules.proofs.AcceptedGraph.{Sound, accepted-sound}
+use Rattle.rules.proofs.Forwarded.{forward-numbers}
+use Rattle.rules.proofs.SpreadMarks.{spread-arms}
 use Rattle.rules.proofs.Chains.{Chain}
 use Rattle.rules.proofs.HeadsExact.{Head, heads-exact}
 use Rattle.rules.proofs.BridgeNoHead.{noPlace, bridge-no-head}
@@ -31,6 +33,16 @@ use Rattle.rules.proofs.ArmsKept.{Kept, arms-kept}
 use Rattle.rules.proofs.BridgeAfter.{targetsIn, After, bridge-after, bridge-only, laid-whole}
 use Rattle.rules.proofs.SplitParts.{Parts, split-parts, Undivided, no-split}
 use Rattle.rules.proofs.EntryFirst.{BeginsPlace, entry-first}
+
+-- the graph after forwarding, if it is asked for
+abbrev pub asked : Bool → Graph → Graph
+asked true g = forward g
+asked false g = g
+
+readied-arms : (forwarding : Bool) (g : Graph) (n : ℕ) → In n (numbersOf g) → (blockAt (readied forwarding g) n) .arms ≡ (blockAt (asked forwarding g) n) .arms
+unfolding readied
+readied-arms true g n i = spread-arms (forward g) n (subst (λ (l : List ℕ). In n l) (sym (forward-numbers g)) i)
+readied-arms false g n i = spread-arms g n i
 
 module _ (g : Graph) (forwarding reorder : Bool) where
   -- the graph as it is laid from, the order before the split, the places, and the laid graph
@@ -59,8 +71,9 @@ module _ (g : Graph) (forwarding reorder : Bool) where
     -- with a split warm comes first, each part in its order; without one nothing moves
     pub parts : T (splits from) → Parts from inOrder
     pub undivided : T (not (splits from)) → Undivided from inOrder
-    -- with bridges passed through, each block's arms are those that it had, at most two exchanged
+    -- with bridges passed through, each block's arms are those after forwarding (if asked for), at most two exchanged
     pub arms-are-kept : Kept from (partition from inOrder) places
+    pub arms-are-forwarded : (n : ℕ) → In n (numbersOf g) → (blockAt from n) .arms ≡ (blockAt (asked forwarding g) n) .arms
     -- heads exactly as said, over the laid graph
     pub heads-are : (i : ℕ) → i < length laidBlocks → T (headAt laidBlocks i) ↔ Head laidBlocks i (getD laidBlocks i noBlock)
     pub no-bridge-heads : (i : ℕ) → i < length laidBlocks → (getD places i noPlace) .isBridge ≡ true → T (headAt laidBlocks i) → ⊥
@@ -80,6 +93,7 @@ module _ (g : Graph) (forwarding reorder : Bool) where
         parts = split-parts from inOrder (ordered-listed g d forwarding reorder);
         undivided = no-split from inOrder (ordered-listed g d forwarding reorder);
         arms-are-kept = arms-kept forwarding reorder g;
+        arms-are-forwarded = readied-arms forwarding g;
         heads-are = heads-exact laidBlocks (laid-whole g d forwarding reorder);
         no-bridge-heads = bridge-no-head g d forwarding reorder;
         classes-are = classes laidBlocks (laid-whole g d forwarding reorder);

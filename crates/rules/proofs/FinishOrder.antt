@@ -44,15 +44,23 @@ module _ (g : Graph) where
     pub split : v .done ≡ new ++ w .done
     pub leads : (m : ℕ) → In m new → P m
     pub mono : (m : ℕ) → In m (w .seen) → In m (v .seen)
+    pub ends : (m : ℕ) → In m (v .seen) → In m (v .done) ⊎ In m (w .seen)
+
+  pub done-mono : (P : ℕ → Type 0) (w v : Walk) → Adds P w v → (m : ℕ) → In m (w .done) → In m (v .done)
+  done-mono P w v a m j = subst (λ (l : List ℕ). In m l) (sym (a .split)) (In-right m (a .new) (w .done) j)
 
   module _ (listed : (n : ℕ) → In n (numbersOf g) → (c : ℕ) → In c (todo g n) → In c (numbersOf g)) where
-    abbrev Visits : ℕ → Type 0
+    pub leads-listed : (x : ℕ) → In x (numbersOf g) → (c : ℕ) → Leads x c → In c (numbersOf g)
+    leads-listed x i c (stay e) = subst (λ (y : ℕ). In y (numbersOf g)) e i
+    leads-listed x i c (on {b = m} p j) = listed m (leads-listed x i m p) c j
+
+    abbrev pub Visits : ℕ → Type 0
     Visits k = (w : Walk) (n : ℕ) → In n (numbersOf g) → unseen g w ≤ k → Inv w → Adds (Leads n) w (visit g k w n) × In n ((visit g k w n) .seen)
 
     folds : (k : ℕ) → Visits k → (n : ℕ) (l : List ℕ) → ((c : ℕ) → In c l → In c (numbersOf g)) → ((c : ℕ) → In c l → In c (todo g n)) → (w : Walk) → unseen g w ≤ k → Inv w →
         Adds (Leads n) w (foldl (visit g k) w l) × ((c : ℕ) → In c l → In c ((foldl (visit g k) w l) .seen))
     unfolding foldl
-    folds k h n [] s t w q i = (record { inv = i; new = []; split = refl; leads = λ m j. absurd j; mono = λ m j. j }, λ c j. absurd j)
+    folds k h n [] s t w q i = (record { inv = i; new = []; split = refl; leads = λ m j. absurd j; mono = λ m j. j; ends = λ m j. inr j }, λ c j. absurd j)
     folds k h n (x ∷ l) s t w q i =
         let a = h w x (s x (inl refl)) q i in
         let w′ = visit g k w x in
@@ -63,6 +71,7 @@ module _ (g : Graph) where
             split = b .0 .split ∙ ap (λ (r : List ℕ). b .0 .new ++ r) (a .0 .split) ∙ sym (append-assoc (b .0 .new) (a .0 .new) (w .done));
             leads = λ m j. ⊎-elim (b .0 .leads m) (λ p. first-arm n x (t x (inl refl)) m (a .0 .leads m p)) (append-In m (b .0 .new) (a .0 .new) j);
             mono = λ m j. b .0 .mono m (a .0 .mono m j);
+            ends = λ m j. ⊎-elim inl (λ p. ⊎-elim (λ q. inl (done-mono (Leads n) w′ (foldl (visit g k) w′ l) (b .0) m q)) inr (a .0 .ends m p)) (b .0 .ends m j);
           },
           λ c j. ⊎-elim (λ e. b .0 .mono c (subst (λ (y : ℕ). In y (w′ .seen)) (sym e) (a .1))) (b .1 c) j,
         )
@@ -72,9 +81,9 @@ module _ (g : Graph) where
 
     already : (w : Walk) (n : ℕ) → Inv w → T (mem n (w .seen)) → Answer w n w
     unfolding Answer
-    already w n i t = (record { inv = i; new = []; split = refl; leads = λ m j. absurd j; mono = λ m j. j }, mem→ n (w .seen) t)
+    already w n i t = (record { inv = i; new = []; split = refl; leads = λ m j. absurd j; mono = λ m j. j; ends = λ m j. inr j }, mem→ n (w .seen) t)
 
-    visits : (k : ℕ) → Visits k
+    pub visits : (k : ℕ) → Visits k
     unfolding Answer finish enter
     visits zero w n j q i =
         ⊎-elim (λ t. subst (Answer w n) (sym (visit-seen g zero w n t)) (already w n i t)) (λ f. absurd (omega (arith, unseen-pos g w n j f))) (test (mem n (w .seen)))
@@ -97,6 +106,7 @@ module _ (g : Graph) where
             split = ap (λ (l : List ℕ). n ∷ l) (a .0 .split);
             leads = λ m p. ⊎-elim (λ e. stay (sym e)) (a .0 .leads m) p;
             mono = λ m p. a .0 .mono m (inr p);
+            ends = λ m p. ⊎-elim (λ q. inl (inr q)) (λ q. ⊎-elim (λ e. inl (inl e)) inr q) (a .0 .ends m p);
           },
           a .0 .mono n (inl refl),
         )
@@ -110,7 +120,7 @@ module _ (g : Graph) where
     there : {x : ℕ} → x ≡ r → Toward r l x
     via : {x y : ℕ} → In x (r ∷ l) → In y (todo g x) → Toward r l y → Toward r l x
 
-  join-leads : (a b : ℕ) → Leads a b → (c : ℕ) → Leads b c → Leads a c
+  pub join-leads : (a b : ℕ) → Leads a b → (c : ℕ) → Leads b c → Leads a c
   join-leads a b p c (stay e) = subst (λ (x : ℕ). Leads a x) e p
   join-leads a b p c (on {b = m} q j) = on (join-leads a b p m q) j
 

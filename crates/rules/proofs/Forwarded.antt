@@ -10,13 +10,14 @@ use mathlib.Core.Option.{Option, none, some}
 use lib.Dec.{eqb, eqb→eq}
 use lib.ListN.{length}
 use Rattle.rules.specs.Lists.{any, find, mem}
-use Rattle.rules.specs.Graph.{Arm, Block, Graph, bit, isEntry, isCold, isDead, hasParameters, isNamed, isAddressed, noBlock, blockAt, numbersOf, targets, entry, withArms}
+use Rattle.rules.specs.Graph.{Arm, Block, Graph, bit, isEntry, isCold, isDead, isAddressed, noBlock, blockAt, numbersOf, targets, entry, withArms}
 use Rattle.rules.specs.Ours.{ours}
-use Rattle.rules.specs.Forward.{onlyTarget, through, leavesAt, goal, movedArms, movedBlock, movedAll, entered, clearedBlock, forward}
+use Rattle.rules.specs.Forward.{through, leavesAt, goal, movedArms, movedBlock, movedAll, entered, clearedBlock, forward}
 use Rattle.rules.specs.Spread.{coldSet, chilled, spread}
 use Rattle.rules.specs.Laid.{readied}
 use Rattle.rules.proofs.Membership.{In, map-In}
 use Rattle.rules.proofs.Wholeness.{Whole, block-in}
+use Rattle.rules.proofs.WaysThrough.{way-through}
 
 -- ---- a block by its number, listed or not
 pub block-or : (g : Graph) (n : ℕ) → In n (numbersOf g) ⊎ (blockAt g n ≡ noBlock)
@@ -29,24 +30,9 @@ block-or (x ∷ g) n = go (block-or g n) (eqb (x .number) n) refl
     go ih false e = ⊎-elim (λ i. inl (inr i)) (λ q. inr q) ih
 
 -- ---- ways through
-only-in : (l : List Arm) (t : ℕ) → onlyTarget l ≡ some t → In t (map (λ (a : Arm). a .to) l)
-unfolding onlyTarget
-only-in [] t e = absurd (let z : _≡_ {A = ℕ} 0 1 = cc in omega arith)
-only-in (a ∷ []) t e = go (eqb (a .args) 0) e
-  where
-    go : (b : Bool) → (elim b as (λ (x : Bool). Option ℕ) [ true ↦ some (a .to) | false ↦ none ]) ≡ some t → In t (a .to ∷ [])
-    go true e = inl cc
-    go false e = absurd (let z : _≡_ {A = ℕ} 0 1 = cc in omega arith)
-only-in (a ∷ b ∷ l) t e = absurd (let z : _≡_ {A = ℕ} 0 1 = cc in omega arith)
-
 pub through-in : (b : Block) (t : ℕ) → through b ≡ some t → In t (targets b)
-unfolding through targets
-through-in b t e =
-    go (eqb (b .end) 0 && not (isEntry (b .marks)) && not (isDead (b .marks)) && not (hasParameters (b .marks)) && not (isNamed (b .marks))) e
-  where
-    go : (c : Bool) → (elim c as (λ (x : Bool). Option ℕ) [ true ↦ onlyTarget (b .arms) | false ↦ none ]) ≡ some t → In t (map (λ (a : Arm). a .to) (b .arms))
-    go true e = only-in (b .arms) t e
-    go false e = absurd (let z : _≡_ {A = ℕ} 0 1 = cc in omega arith)
+unfolding targets
+through-in b t e = let w = way-through b t .0 e in rw (w .only) (inl (sym (w .to)))
 
 no-through : (t : ℕ) → through noBlock ≡ some t → ⊥
 unfolding targets noBlock

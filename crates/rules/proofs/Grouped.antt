@@ -1,21 +1,20 @@
 -- In records of which none is refused, the arms stand grouped by block as listed: the file of their graph is the records'
 -- bytes, one after the other. Assumes nothing.
-use Prim.Native.Nat.{ℕ, zero, suc, _+_, _*_, _≤_, _<_}
+use Prim.Native.Nat.{ℕ, suc, _*_, _<_}
 use native.Mathlib.Omega.{arith}
 use mathlib.Core.Path.{_≡_, refl, sym, ap, ap₂, _∙_}
 use mathlib.Core.Bool.{Bool, true, false, cond}
 use mathlib.Core.List.{List, [], _∷_, _++_, append-assoc, append-nil}
-use lib.Dec.{eqb, ltb}
+use lib.Dec.{eqb}
 use lib.ListN.{length, length-append}
 use borrow.Author.Tests.{eq-eqb, ne-eqb, eqb-true, eqb-false}
 use Rattle.limits.specs.Limits.{size}
-use Rattle.lists.proofs.Choices.{split-bool, split-eq}
 use Rattle.rules.specs.declared.Record.{Record}
 use Rattle.rules.specs.declared.Record.the-variants.{Block, Arm, Outside}
 use Rattle.rules.specs.Graph as graph
 use Rattle.rules.specs.Graph.{Graph}
 use Rattle.rules.specs.Records.{fields, blockBytes, armBytes, leaving, armsOf, listing, blocksOf, graphOf, blocksBytes, leavingBytes, armsBytes, written}
-use Rattle.rules.specs.Refusals.{placeOf, armCount, lastOf, recordChecks, allChecks, Clear}
+use Rattle.rules.specs.Refusals.{placeOf, armCount, recordChecks, allChecks, Clear}
 use Rattle.rules.proofs.Verdicts.{clear-parts}
 use Rattle.rules.proofs.Listed.{place-most, none-arms, late-arms, block-clear, arm-clear, outside-clear}
 

@@ -7,7 +7,6 @@ use mathlib.Core.List.{List}
 use lib.Dec.{ltb}
 use lib.ListN.{length}
 use Rattle.lists.proofs.Choices.{split-eq}
-use Rattle.rules.specs.declared.Verdict.{Verdict}
 use Rattle.rules.specs.declared.Answer.{Answer}
 use Rattle.rules.specs.Records.{records, graphOf, written}
 use Rattle.rules.specs.Refusals.{verdict}

@@ -12,6 +12,7 @@ pub mod Counting
 pub mod LeastLaws
 pub mod Wholeness
 pub mod AcceptedGraph
+pub mod WaysThrough
 pub mod Forwarded
 pub mod GoalFirst
 pub mod ForwardMoves
@@ -42,3 +43,5 @@ pub mod StackWalk
 pub mod Pops
 pub mod FinishOrder
 pub mod Pieces
+pub mod TwoWalks
+pub mod Passes

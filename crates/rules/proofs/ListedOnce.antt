@@ -22,7 +22,7 @@ use Rattle.rules.proofs.Forwarded.{readied-numbers, readied-whole}
 use Rattle.rules.proofs.AcceptedGraph.{Sound}
 
 module _ (g : Graph) (d : Sound g) where
-  twice-none : (f : Bool) → Once (numbersOf (readied f g))
+  pub twice-none : (f : Bool) → Once (numbersOf (readied f g))
   twice-none f m = rw (readied-numbers f g) (d .once m)
 
   pub ordered-count : (f r : Bool) (n : ℕ) → count n (ordered r (readied f g)) ≡ count n (numbersOf g)

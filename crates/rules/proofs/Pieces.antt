@@ -11,7 +11,7 @@ use Rattle.rules.specs.Spread.{least}
 use Rattle.rules.proofs.Membership.{In, any→, →any, keep→, →keep, mem→, →mem}
 use Rattle.rules.proofs.LeastLaws.{least-closed, least-start, least-ind}
 use Rattle.rules.proofs.PlainVisit.{todo}
-use Rattle.rules.proofs.FinishOrder.{Leads, stay, on, first-arm, Good, Toward, there, via, leads-back}
+use Rattle.rules.proofs.FinishOrder.{Leads, stay, on, first-arm, Good, Toward, there, via, leads-back, leads-listed}
 
 module _ (g : Graph) where
   unfoldable pub leadsIn : List ℕ → ℕ → Bool
@@ -47,13 +47,9 @@ module _ (g : Graph) where
     unfolding Both
     piece-sound x t = let b = both x t in (leads-back g r l good x (b .0), b .1)
 
-    leads-listed : (x : ℕ) → In x (numbersOf g) → (c : ℕ) → Leads g x c → In c (numbersOf g)
-    leads-listed x i c (stay e) = subst (λ (y : ℕ). In y (numbersOf g)) e i
-    leads-listed x i c (on {b = m} p j) = listed m (leads-listed x i m p) c j
-
     leads-shut : (x : ℕ) → In x (numbersOf g) → (c : ℕ) → Leads g x c → T (mem c s) → T (mem x s)
     leads-shut x i c (stay e) t = subst (λ (y : ℕ). T (mem y s)) (sym e) t
-    leads-shut x i c (on {b = m} p j) t = leads-shut x i m p (back m c (leads-listed x i m p) j t)
+    leads-shut x i c (on {b = m} p j) t = leads-shut x i m p (back m c (leads-listed g listed x i m p) j t)
 
     clear : (x : ℕ) → In x (numbersOf g) → Leads g r x → (c : ℕ) → Leads g x c → T (not (mem c s))
     clear x i q c p = not-T (mem c s) (λ t. T-not (mem r s) rs (leads-shut r ri x q (leads-shut x i c p t)))
@@ -61,7 +57,7 @@ module _ (g : Graph) where
     pull : (x : ℕ) → In x (numbersOf g) → Leads g r x → (c : ℕ) → Leads g x c → T (mem c (piece s r)) → T (mem x (piece s r))
     unfolding piece leadsIn unlaid
     pull x i q c (stay e) t = subst (λ (y : ℕ). T (mem y (piece s r))) (sym e) t
-    pull x i q c (on {b = m} p j) t = pull x i q m p (least-closed (unlaid s) leadsIn (r ∷ []) m (→keep (λ (b : ℕ). not (mem b s)) (numbersOf g) m (leads-listed x i m p) (clear x i q m p))
+    pull x i q c (on {b = m} p j) t = pull x i q m p (least-closed (unlaid s) leadsIn (r ∷ []) m (→keep (λ (b : ℕ). not (mem b s)) (numbersOf g) m (leads-listed g listed x i m p) (clear x i q m p))
         (→any (λ (y : ℕ). mem y (piece s r)) (todo g m) c j t))
 
     pub piece-complete : (x : ℕ) → In x (numbersOf g) → Leads g r x → Leads g x r → T (mem x (piece s r))

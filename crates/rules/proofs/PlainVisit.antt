@@ -118,7 +118,7 @@ module _ (g : Graph) where
     all-goes zero = goes zero tt
     all-goes (suc k) = goes (suc k) (all-goes k)
 
-  few : unseen (record { seen = []; done = [] }) ≤ length g
+  pub few : unseen (record { seen = []; done = [] }) ≤ length g
   unfolding unseen numbersOf
   few = omega (arith, tally-len (λ (b : ℕ). not (mem b [])) (map (λ (b : Block). b .number) g), length-map g (λ (b : Block). b .number))
 

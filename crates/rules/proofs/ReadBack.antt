@@ -1,23 +1,22 @@
 -- THEOREM read-write: reading what was written gives that graph, for every graph within the limits. The records of a graph are
 -- put together one by one; none is refused, and their graph is it. Assumes nothing.
-use Prim.Native.Nat.{ℕ, zero, suc, _+_, _-_, _*_, _/_, _%_, _^_, _≤_, _<_}
+use Prim.Native.Nat.{ℕ, zero, suc, _+_, _*_, _/_, _%_, _^_, _≤_, _<_}
 use native.Mathlib.Omega.{arith}
 use mathlib.Core.Path.{_≡_, refl, sym, ap, ap₂, subst, _∙_}
 use mathlib.Core.Bool.{Bool, true, false, not, cond, _&&_, _||_, true≢false}
 use mathlib.Core.List.{List, [], _∷_, _++_, append-assoc, append-nil}
-use lib.Dec.{eqb, ltb, leb}
-use lib.ListN.{length, getD, take, drop, length-append, length-drop}
+use lib.Dec.{eqb, ltb}
+use lib.ListN.{length, take, drop, length-append, length-drop}
 use lib.Seq.{take-all, drop-at, take-append-le, drop-append-le}
-use borrow.Author.Tests.{lt-ltb, le-ltb, lt-leb, eq-eqb, ne-eqb, eqb-true, eqb-false, ltb-true}
+use borrow.Author.Tests.{lt-ltb, le-ltb, lt-leb, eq-eqb, eqb-true, ltb-true}
 use Rattle.limits.specs.Limits.{size, mostBytes, numbers, mostArms, marksBelow, endsBelow}
 use Rattle.lists.proofs.Choices.{split-bool, or-false}
 use Rattle.rules.specs.declared.Record.{Record}
-use Rattle.rules.specs.declared.Record.the-variants.{Block, Arm, Outside}
-use Rattle.rules.specs.declared.Verdict.{Verdict}
+use Rattle.rules.specs.declared.Record.the-variants.{Block, Arm}
 use Rattle.rules.specs.Graph as graph
 use Rattle.rules.specs.Graph.{Graph, isEntry}
-use Rattle.rules.specs.Records.{little, bytesOf, gapZero, blockOf, armOf, recordOf, fields, blockBytes, armBytes, recordAt, before, records, leaving, armsOf, listing, blocksOf, graphOf, written}
-use Rattle.rules.specs.Refusals.{placeOf, entryOf, armCount, lastOf, listed, recordChecks, allChecks, tooMany, panicChecks, checks, Clear, fine, first, verdict}
+use Rattle.rules.specs.Records.{little, gapZero, blockOf, armOf, recordOf, fields, blockBytes, armBytes, recordAt, before, records, leaving, armsOf, listing, blocksOf, graphOf, written}
+use Rattle.rules.specs.Refusals.{placeOf, entryOf, armCount, lastOf, listed, recordChecks, allChecks, panicChecks, checks, Clear, fine, verdict}
 use Rattle.rules.specs.Within.{has, hasEntry, armTotal, ArmsFit, BlockFits, BlocksFit, Within}
 use Rattle.rules.proofs.Verdicts.{clear-join, first-clear}
 use Rattle.rules.proofs.Grouped.{recordBytes, recorded, grouped}
@@ -371,10 +370,6 @@ module _ (g : Graph) (h : Within g) where
 
   all : List Record
   all = withArms all-blocks g
-
-  listed-all : (n : ℕ) → has n g ≡ true → 0 < placeOf n all-blocks
-  unfolding all-blocks
-  listed-all n e = place-has n [] g e
 
   all-clear : Clear (allChecks all)
   unfolding all all-blocks allChecks armCount placeOf entryOf lastOf

@@ -6,12 +6,12 @@ use mathlib.Core.Bool.{Bool, true, false, cond, true≢false}
 use mathlib.Core.List.{List, [], _∷_, _++_}
 use lib.Dec.{ltb, eqb}
 use lib.ListN.{length, getD, take, drop, length-take, length-drop}
-use lib.Seq.{take-all, take-length, take-add, drop-cons, getD-take, getD-drop}
+use lib.Seq.{take-all, take-length, take-add, drop-cons, getD-drop}
 use borrow.Author.Tests.{eq-eqb, ne-eqb, eqb-true, ltb-false, not-false}
 use Rattle.limits.specs.Limits.{size, mostBytes, numbers, marksBelow, endsBelow}
 use Rattle.lists.proofs.Choices.{cond-elim, split-eq, split-bool}
 use Rattle.rules.specs.declared.Record.{Record}
-use Rattle.rules.specs.declared.Record.the-variants.{Block, Arm, Outside}
+use Rattle.rules.specs.declared.Record.the-variants.{Outside}
 use Rattle.rules.specs.Graph as graph
 use Rattle.rules.specs.Records.{little, bytesOf, gapZero, blockOf, armOf, recordOf, fields, blockBytes, armBytes, recordAt, before, records, graphOf, written}
 use Rattle.rules.specs.Refusals.{recordChecks, allChecks, panicChecks, checks, Clear, verdict}

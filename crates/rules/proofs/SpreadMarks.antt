@@ -6,7 +6,6 @@ use mathlib.Core.Bool.{Bool, true, false, not, _&&_, cond}
 use mathlib.Core.Logic.{_⊎_, inl, inr}
 use mathlib.Core.List.{List, [], _∷_, map}
 use lib.Dec.{T, eqb, eqb-refl}
-use lib.ListN.{length}
 use borrow.Author.Tests.{eq-eqb, eqb-false}
 use Rattle.rules.specs.Lists.{keep, find, mem}
 use Rattle.rules.specs.Graph.{Block, Graph, bit, isCold, blockAt, coldAt, numbersOf, entry}

@@ -1,19 +1,16 @@
 -- The first line that holds, and files whose lines do not hold. Assumes nothing.
-use Prim.Native.Nat.{ℕ, zero, suc, _+_, _-_, _*_, _%_, _/_, _≤_, _<_}
+use Prim.Native.Nat.{ℕ, zero, suc, _+_, _-_, _%_, _/_, _≤_, _<_}
 use native.Mathlib.Nat.{add-zero, add-suc}
 use native.Mathlib.Omega.{arith}
 use mathlib.Core.Path.{_≡_, refl, sym, ap, subst, _∙_}
-use mathlib.Core.Bool.{Bool, true, false, not, cond}
-use mathlib.Core.List.{List, [], _∷_, _++_, append-assoc}
-use lib.Dec.{eqb, ltb}
+use mathlib.Core.Bool.{Bool, true, false, cond}
+use mathlib.Core.List.{List, [], _∷_, _++_}
 use lib.ListN.{length}
 use borrow.Author.Tests.{lt-ltb, le-ltb, eq-eqb, ne-eqb}
 use Rattle.limits.specs.Limits.{size, mostBytes}
-use Rattle.rules.specs.declared.Record.{Record}
 use Rattle.rules.specs.declared.Verdict.{Verdict}
-use Rattle.rules.specs.Graph.{Graph}
 use Rattle.rules.specs.Records.{recordAt, before, records, graphOf}
-use Rattle.rules.specs.Refusals.{Check, check, recordChecks, allChecks, panicChecks, checks, Clear, fine, first, verdict}
+use Rattle.rules.specs.Refusals.{Check, recordChecks, allChecks, panicChecks, checks, Clear, fine, first, verdict}
 
 abbrev pub at : ℕ → ℕ → Verdict
 at number place = record { number = number; place = place }

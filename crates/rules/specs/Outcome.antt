@@ -5,7 +5,6 @@ use mathlib.Core.List.{List, _++_}
 use lib.Dec.{eqb, ltb}
 use lib.ListN.{length, drop}
 use Rattle.limits.specs.Limits.{noSplit}
-use Rattle.rules.specs.declared.Verdict.{Verdict}
 use Rattle.rules.specs.declared.Answer.{Answer}
 use Rattle.rules.specs.Graph.{Graph}
 use Rattle.rules.specs.Records.{records, graphOf, written}

@@ -1,6 +1,6 @@
 -- Document 01, "Refusal numbers": the table, in the order in which it is looked through. Each line is a condition on a record
 -- and those before it (the last of them first); the first that holds gives the number and the record.
-use Prim.Native.Nat.{ℕ, suc, _+_, _%_, _/_}
+use Prim.Native.Nat.{ℕ, suc, _%_}
 use mathlib.Core.Path.{_≡_}
 use mathlib.Core.Bool.{Bool, true, false, not, cond, _&&_, _||_}
 use mathlib.Core.List.{List, [], _∷_, _++_}

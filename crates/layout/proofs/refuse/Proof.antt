@@ -1,7 +1,6 @@
 -- `layout::refuse` meets its contract as it stands.
 use mathlib.Core.Path.{refl}
 use Rattle.rules.specs.Outcome.{refusal}
-use borrow.Author.Needs.{needs}
 use Rattle.layout.proofs.refuse.Statement.{statement}
 use Rattle.layout.proofs.refuse.Tie as tie
 

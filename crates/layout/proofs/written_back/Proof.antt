@@ -1,7 +1,6 @@
 -- `layout::written_back` meets its contract as it stands.
 use mathlib.Core.Path.{refl}
 use Rattle.rules.specs.Outcome.{writtenBack}
-use borrow.Author.Needs.{needs}
 use Rattle.layout.proofs.written_back.Statement.{statement}
 use Rattle.layout.proofs.written_back.Tie as tie
 

@@ -1,7 +1,6 @@
 -- `reader::no_arms` meets its contract as it stands.
 use mathlib.Core.Path.{refl}
 use Rattle.records.specs.Tables.{noArms}
-use borrow.Author.Needs.{needs}
 use Rattle.reader.proofs.no_arms.Statement.{statement}
 use Rattle.reader.proofs.no_arms.Tie as tie
 

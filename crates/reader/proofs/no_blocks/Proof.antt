@@ -1,7 +1,6 @@
 -- `reader::no_blocks` meets its contract as it stands.
 use mathlib.Core.Path.{refl}
 use Rattle.records.specs.Tables.{noBlocks}
-use borrow.Author.Needs.{needs}
 use Rattle.reader.proofs.no_blocks.Statement.{statement}
 use Rattle.reader.proofs.no_blocks.Tie as tie
 

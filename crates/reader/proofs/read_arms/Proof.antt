@@ -1,7 +1,7 @@
 -- `reader::read_arms` meets its contract: while it runs, the records so far are arms and the tables say what they say.
-use Prim.Native.Nat.{ℕ, _+_, _-_, _≤_}
+use Prim.Native.Nat.{_-_, _≤_}
 use native.Mathlib.Omega.{arith}
-use mathlib.Core.Path.{_≡_, refl, sym, ap, subst, _∙_}
+use mathlib.Core.Path.{_≡_, refl, sym, _∙_}
 use Rattle.records.specs.Tables.{ArmsSized, ArmsWithin}
 use Rattle.records.proofs.Laws.{part-record}
 use Rattle.reader.proofs.ArmLaws.{from-inside, none-sized, none-within, added-sized, added-within, Held, held-start, held-all, held-no-arm, held-refused, held-turn}

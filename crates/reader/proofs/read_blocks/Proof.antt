@@ -1,10 +1,9 @@
 -- `reader::read_blocks` meets its contract: while it runs, the records so far are blocks and the tables say what they say.
-use Prim.Native.Nat.{ℕ, _+_, _-_, _≤_}
+use Prim.Native.Nat.{_-_, _≤_}
 use native.Mathlib.Omega.{arith}
-use mathlib.Core.Path.{_≡_, refl, sym, ap, subst, _∙_}
+use mathlib.Core.Path.{refl, sym, subst, _∙_}
 use Rattle.rules.proofs.Layouts.{block-small}
-use Rattle.records.specs.Faults.{blockFault}
-use Rattle.reader.specs.Reads.{BlocksHeld, BlocksReadOf}
+use Rattle.reader.specs.Reads.{BlocksHeld}
 use Rattle.records.proofs.Laws.{part-record}
 use Rattle.reader.proofs.BlockLaws.{held-start, block-refused, listed-room, block-turn, not-block, ends-at, stops-at}
 use borrow.Author.Needs.{needs}

@@ -1,7 +1,6 @@
 -- `within` meets its contract: a number at most the length counts.
 use native.Mathlib.Omega.{arith}
 use Rattle.io.proofs.Counting.{counts}
-use borrow.Author.Needs.{needs}
 use Rattle.write_back.proofs.within.Statement.{statement}
 use Rattle.write_back.proofs.within.Tie as tie
 

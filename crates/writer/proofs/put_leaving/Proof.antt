@@ -1,7 +1,7 @@
 -- `writer::put_leaving` meets its contract: while it runs, the front of the room has the arms so far.
 use Prim.Native.Nat.{ℕ, _+_, _-_, _*_, _≤_}
 use native.Mathlib.Omega.{arith}
-use mathlib.Core.Path.{_≡_, refl, subst, _∙_}
+use mathlib.Core.Path.{_≡_, refl, subst}
 use mathlib.Core.List.{_++_}
 use lib.ListN.{length, drop}
 use Rattle.limits.specs.Limits.{size}

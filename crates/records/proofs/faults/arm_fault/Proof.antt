@@ -1,7 +1,6 @@
 -- `faults::arm_fault` meets its contract: each return is the tests on its way.
 use Rattle.records.specs.Faults.{armFault}
 use borrow.Author.Tests.{lt-ltb, le-ltb, le-leb, lt-leb}
-use borrow.Author.Needs.{needs}
 use Rattle.records.proofs.faults.arm_fault.Statement.{statement}
 use Rattle.records.proofs.faults.arm_fault.Tie as tie
 

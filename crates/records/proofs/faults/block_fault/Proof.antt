@@ -1,6 +1,6 @@
 -- `faults::block_fault` meets its contract: each return is the tests on its way.
 use Rattle.records.specs.Faults.{blockFault}
-use borrow.Author.Tests.{lt-ltb, le-ltb, eq-eqb, ne-eqb}
+use borrow.Author.Tests.{lt-ltb, le-ltb}
 use borrow.Author.Needs.{needs}
 use Rattle.records.proofs.faults.block_fault.Statement.{statement}
 use Rattle.records.proofs.faults.block_fault.Tie as tie

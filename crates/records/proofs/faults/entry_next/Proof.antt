@@ -1,6 +1,5 @@
 -- `faults::entry_next` meets its contract: each return is the tests on its way.
 use Rattle.records.specs.Faults.{entryNext}
-use borrow.Author.Tests.{lt-ltb, le-ltb, eq-eqb, ne-eqb}
 use borrow.Author.Needs.{needs}
 use Rattle.records.proofs.faults.entry_next.Statement.{statement}
 use Rattle.records.proofs.faults.entry_next.Tie as tie

@@ -1,6 +1,6 @@
 -- `faults::first_next` meets its contract: each return is the tests on its way.
 use Rattle.records.specs.Faults.{firstNext}
-use borrow.Author.Tests.{lt-ltb, le-ltb, eq-eqb, ne-eqb}
+use borrow.Author.Tests.{eq-eqb, ne-eqb}
 use borrow.Author.Needs.{needs}
 use Rattle.records.proofs.faults.first_next.Statement.{statement}
 use Rattle.records.proofs.faults.first_next.Tie as tie

@@ -1,6 +1,5 @@
 -- `faults::is_entry` meets its contract: bit 0.
 use Rattle.rules.proofs.Layouts.{entry-bit}
-use borrow.Author.Needs.{needs}
 use Rattle.records.proofs.faults.is_entry.Statement.{statement}
 use Rattle.records.proofs.faults.is_entry.Tie as tie
 

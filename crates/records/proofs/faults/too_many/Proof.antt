@@ -1,6 +1,5 @@
 -- `faults::too_many` meets its contract: each return is the tests on its way.
 use Rattle.records.proofs.FaultLaws.{many-low, many-two, many-six, many-never}
-use borrow.Author.Needs.{needs}
 use Rattle.records.proofs.faults.too_many.Statement.{statement}
 use Rattle.records.proofs.faults.too_many.Tie as tie
 

@@ -1,6 +1,6 @@
 -- `fields::arm` meets its contract: each return is the tests on its way.
 use Rattle.rules.specs.Records.{armOf}
-use borrow.Author.Tests.{lt-ltb, le-ltb, eq-eqb, ne-eqb}
+use borrow.Author.Tests.{lt-ltb, le-ltb}
 use borrow.Author.Needs.{needs}
 use Rattle.records.proofs.fields.arm.Statement.{statement}
 use Rattle.records.proofs.fields.arm.Tie as tie

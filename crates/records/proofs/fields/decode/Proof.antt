@@ -1,6 +1,6 @@
 -- `fields::decode` meets its contract: each return is the tests on its way.
 use Rattle.rules.specs.Records.{recordOf}
-use borrow.Author.Tests.{lt-ltb, le-ltb, eq-eqb, ne-eqb}
+use borrow.Author.Tests.{eq-eqb, ne-eqb}
 use borrow.Author.Needs.{needs}
 use Rattle.records.proofs.fields.decode.Statement.{statement}
 use Rattle.records.proofs.fields.decode.Tie as tie

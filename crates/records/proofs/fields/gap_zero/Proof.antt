@@ -1,7 +1,7 @@
 -- `fields::gap_zero` meets its contract: each return is the tests on its way.
 use Rattle.rules.specs.Records.{gapZero}
 use Rattle.records.proofs.Laws.{gap-last}
-use borrow.Author.Tests.{lt-ltb, le-ltb, eq-eqb, ne-eqb}
+use borrow.Author.Tests.{eq-eqb, ne-eqb}
 use borrow.Author.Needs.{needs}
 use Rattle.records.proofs.fields.gap_zero.Statement.{statement}
 use Rattle.records.proofs.fields.gap_zero.Tie as tie
