@@ -45,19 +45,23 @@ exitOf end (Bridge i) = cond (eqb end 2) 2 0
 
 -- ---- a block as it is laid
 
+-- a place of the listing: a block or a bridge, with its exit byte
 pub record Place : Type 0 where
   pub block : Block
   pub isBridge : Bool
   pub exit : ℕ
 
+-- what is found past the last arm
 unfoldable pub noArm : Arm
 noArm = record { to = blocks; args = 0; weight = 0 }
 
+-- arm i replaced
 unfoldable pub setArm : ℕ → Arm → List Arm → List Arm
 setArm i a [] = []
 setArm zero a (x ∷ l) = a ∷ l
 setArm (suc i) a (x ∷ l) = x ∷ setArm i a l
 
+-- "exchange": the first two arms change places
 unfoldable pub swapped : List Arm → List Arm
 swapped [] = []
 swapped (x ∷ []) = x ∷ []
@@ -72,6 +76,7 @@ armsLeft new arms Branch = arms
 armsLeft new arms Exchanged = swapped arms
 armsLeft new arms (Bridge i) = setArm i (record { to = new; args = 0; weight = (getD arms i noArm) .weight }) arms
 
+-- a block as it is laid, left in this way
 unfoldable pub laidBlock : ℕ → Block → Leaving → Place
 unfolding armsLeft withArms exitOf
 laidBlock new b v = record { block = withArms b (armsLeft new (b .arms) v); isBridge = false; exit = exitOf (b .end) v }
@@ -82,6 +87,7 @@ unfoldable pub bridgeFor : ℕ → Bool → Arm → Place
 bridgeFor new cold a =
     record { block = record { number = new; marks = cond cold 2 0; end = 0; weight = a .weight; arms = a ∷ [] }; isBridge = true; exit = 1 }
 
+-- the bridge that this way of leaving makes, if any
 unfoldable pub bridgeOf : ℕ → Bool → Block → Leaving → List Place
 unfolding bridgeFor noArm
 bridgeOf new cold b Nothing = []
@@ -114,6 +120,7 @@ layPart g cold new (n ∷ l) =
     let v = edges (nextIn l) (b .end) (b .arms) in
     laidBlock new b v ∷ (bridgeOf new cold b v ++ layPart g cold (newAfter new v) l)
 
+-- how many bridges stand in the places
 unfoldable pub bridges : List Place → ℕ
 bridges [] = 0
 bridges (p ∷ l) = let r = bridges l in cond (p .isBridge) (suc r) r
@@ -123,6 +130,7 @@ unfoldable pub warmPlaces : Graph → List ℕ → List Place
 unfolding layPart warmPart
 warmPlaces g o = layPart g false numbers (warmPart g o)
 
+-- "warm, then cold, each in order"; without a split one part that is not cold
 unfoldable pub lay : Graph → List ℕ → List Place
 unfolding splits warmPlaces layPart coldPart bridges
 lay g o = elim (splits g) [

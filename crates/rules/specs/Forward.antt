@@ -46,6 +46,7 @@ movedArms goals done (a ∷ l) =
     ] in
     b ∷ movedArms goals (done ++ (b ∷ [])) l
 
+-- "over listed blocks that are ours"
 unfoldable pub movedBlock : (ℕ → Option ℕ) → Block → Block
 unfolding movedArms ours withArms
 movedBlock goals b = elim (ours b) [ false ↦ b | true ↦ withArms b (movedArms goals [] (b .arms)) ]
@@ -85,6 +86,7 @@ elsewhere [] l = 0
 elsewhere (a ∷ k) [] = 0
 elsewhere (a ∷ k) (b ∷ l) = cond (eqb (a .to) (b .to)) 0 1 + elsewhere k l
 
+-- the arms that go elsewhere, over all blocks
 unfoldable pub movesBetween : Graph → Graph → ℕ
 unfolding elsewhere
 movesBetween [] h = 0

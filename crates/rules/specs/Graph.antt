@@ -7,12 +7,14 @@ use lib.Dec.{eqb}
 use Rattle.limits.specs.Limits.{blocks}
 use Rattle.rules.specs.Lists.{find}
 
+-- an arm of the block that it stands in: "to", "1 if it carries arguments, else 0", "weight"
 pub record Arm : Type 0 where
   pub to : ℕ
   -- 1 if it carries arguments, else 0
   pub args : ℕ
   pub weight : ℕ
 
+-- "number", "marks", "end", "weight", and its arms in listed order
 pub record Block : Type 0 where
   pub number : ℕ
   pub marks : ℕ

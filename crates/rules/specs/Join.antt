@@ -40,6 +40,7 @@ links g ts used cold (a ∷ l) =
           (record { weight = a .weight; long = k .long; index = k .index } ∷ r)
     ]
 
+-- "heaviest, then longer trace, then earlier": the trace that follows, if any
 unfoldable pub nextTrace : Graph → List (List ℕ) → List ℕ → ℕ → Option Link
 unfolding links best looser lastOr blockAt coldAt
 nextTrace g ts used i =
@@ -58,6 +59,7 @@ unfolding follow mem
 connectFrom g ts used i [] = used
 connectFrom g ts used i (t ∷ l) = connectFrom g ts (elim (mem i used) [ true ↦ used | false ↦ follow g ts (length ts) used i ]) (i + 1) l
 
+-- the traces in the order that they are joined, as one list of blocks
 unfoldable pub connect : Graph → List (List ℕ) → List ℕ
 unfolding connectFrom concat
 connect g ts = concat (map (λ (i : ℕ). getD ts i []) (reverse (connectFrom g ts [] 0 ts)))

@@ -31,6 +31,7 @@ unfoldable pub layout : Bool → Bool → Graph → List Place
 unfolding readied ordered lay
 layout forwarding reorder g = let s = readied forwarding g in lay s (ordered reorder s)
 
+-- "split place (256 for none)"
 unfoldable pub splitOf : Bool → Bool → Graph → ℕ
 unfolding readied ordered splitPlace
 splitOf forwarding reorder g = let s = readied forwarding g in splitPlace s (ordered reorder s)

@@ -83,6 +83,7 @@ unfoldable pub refusalLine : Verdict → List ℕ
 unfolding line decimal
 refusalLine v = line (refusedWord ∷ decimal (v .number) ∷ atWord ∷ decimal (v .place) ∷ [])
 
+-- "blocklist [..] forwards, reorders, prints per place"; then the last line
 unfoldable pub listingOf : Graph → List ℕ
 unfolding layout laidGraph placeLines splitLine splitOf
 listingOf g = let l = layout true true g in placeLines (laidGraph l) 0 l ++ splitLine (splitOf true true g)

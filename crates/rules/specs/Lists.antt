@@ -41,6 +41,7 @@ module _ {A : Type 0} where
   firstOr d [] = d
   firstOr d (x ∷ l) = x
 
+  -- the last of the list, or a given one
   unfoldable pub lastOr : A → List A → A
   lastOr d [] = d
   lastOr d (x ∷ []) = x
@@ -52,6 +53,7 @@ module _ {A : Type 0} where
   concat (x ∷ l) = x ++ concat l
 
 module _ {A B : Type 0} where
+  -- one after the other, from the left
   unfoldable pub foldl : (B → A → B) → B → List A → B
   foldl f b [] = b
   foldl f b (x ∷ l) = foldl f (f b x) l

@@ -13,6 +13,7 @@ use Rattle.rules.specs.Forward.{moves}
 use Rattle.rules.specs.Exits.{Place, bridges}
 use Rattle.rules.specs.Laid.{layout, splitOf, laidBytes}
 
+-- the answer, and the lent bytes when the call ends
 pub record Outcome : Type 0 where
   pub answer : Answer
   pub lent : List ℕ
@@ -23,6 +24,7 @@ unfoldable pub refusal : ℕ → ℕ → ℕ → Answer
 refusal number place needed =
     record { refusal = number; place = place; needed = needed; written = 0; blocks = 0; bridges = 0; moved = 0; split = 0 }
 
+-- a refusal, with the lent bytes as they were
 unfoldable pub refused : ℕ → ℕ → ℕ → List ℕ → Outcome
 refused number place needed lent = record { answer = refusal number place needed; lent = lent }
 
@@ -58,6 +60,7 @@ laid forwarding reorder g l bytes =
       split = splitOf forwarding reorder g;
     }
 
+-- "10: lent output shorter than the result". "Success [..] writes the first bytes and keeps the rest."
 unfoldable pub layoutOf : Bool → Bool → Graph → List ℕ → Outcome
 layoutOf forwarding reorder g lent =
     let l = layout forwarding reorder g in

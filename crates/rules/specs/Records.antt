@@ -48,9 +48,11 @@ recordOf r = cond (gapZero r) (cond (eqb (getD r 0 0) 1) (blockOf r) (cond (eqb 
 unfoldable pub fields : ℕ → ℕ → ℕ → ℕ → ℕ → ℕ → ℕ → List ℕ
 fields kind b1 b2 b3 b4 b5 weight = kind ∷ b1 ∷ b2 ∷ b3 ∷ b4 ∷ b5 ∷ 0 ∷ 0 ∷ bytesOf 8 weight
 
+-- "Block: byte 0 = 1; byte 1 number 0 to 127; byte 2 marks; byte 3 end; bytes 4 to 7 zero; bytes 8 to 15 weight."
 unfoldable pub blockBytes : graph.Block → List ℕ
 blockBytes b = fields 1 (b .number % 256) (b .marks) (b .end) 0 0 (b .weight)
 
+-- "Arm: byte 0 = 2; byte 1 from; byte 2 to; byte 3 = 1 if it carries arguments, else 0; bytes 4 to 7 zero; bytes 8 to 15 weight."
 unfoldable pub armBytes : ℕ → graph.Arm → List ℕ
 armBytes from a = fields 2 (from % 256) (a .to % 256) (a .args) 0 0 (a .weight)
 
@@ -88,6 +90,7 @@ listing arms (Block number marks end weight) = record { number = number; marks =
 listing arms (Arm from to args weight) = []
 listing arms Outside = []
 
+-- the blocks of records, the last first, each with the arms that its number is given
 unfoldable pub blocksOf : (ℕ → List graph.Arm) → List Record → Graph
 blocksOf arms [] = []
 blocksOf arms (r ∷ l) = blocksOf arms l ++ listing arms r
@@ -98,14 +101,17 @@ graphOf l = blocksOf (λ n. armsOf n l) l
 
 -- ---- writing back
 
+-- "Blocks come first, in listed order."
 unfoldable pub blocksBytes : Graph → List ℕ
 blocksBytes [] = []
 blocksBytes (b ∷ g) = blockBytes b ++ blocksBytes g
 
+-- the arms of one block
 unfoldable pub leavingBytes : ℕ → List graph.Arm → List ℕ
 leavingBytes from [] = []
 leavingBytes from (a ∷ l) = armBytes from a ++ leavingBytes from l
 
+-- "Arms follow, in the listed order of their from-block"
 unfoldable pub armsBytes : Graph → List ℕ
 armsBytes [] = []
 armsBytes (b ∷ g) = leavingBytes (b .number) (b .arms) ++ armsBytes g

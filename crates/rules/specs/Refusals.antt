@@ -44,6 +44,7 @@ lastOf (Block number marks end weight ∷ l) = lastOf l
 lastOf (Arm from to args weight ∷ l) = placeOf from l
 lastOf (Outside ∷ l) = lastOf l
 
+-- the number is that of a block among the records
 unfoldable pub listed : ℕ → List Record → Bool
 listed n l = ltb 0 (placeOf n l)
 
@@ -111,9 +112,11 @@ Clear (c ∷ l) = (c .holds ≡ false) × Clear l
 
 -- ---- the verdict
 
+-- nothing is refused
 unfoldable pub fine : Verdict
 fine = record { number = 0; place = 0 }
 
+-- the first line that holds
 unfoldable pub first : List Check → Verdict
 first [] = fine
 first (c ∷ l) = cond (c .holds) (record { number = c .number; place = c .place }) (first l)

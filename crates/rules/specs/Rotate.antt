@@ -20,6 +20,7 @@ unfoldable pub leadIn : ℕ → List ℕ → List ℕ
 leadIn n [] = []
 leadIn n (x ∷ l) = elim (eqb x n) [ true ↦ [] | false ↦ x ∷ leadIn n l ]
 
+-- the part of the trace "from target to end", where n is the target
 unfoldable pub cycle : ℕ → List ℕ → List ℕ
 cycle n [] = []
 cycle n (x ∷ l) = elim (eqb x n) [ true ↦ x ∷ l | false ↦ cycle n l ]

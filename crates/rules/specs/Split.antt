@@ -11,10 +11,12 @@ unfoldable pub splits : Graph → Bool
 unfolding warmEntry any isCold
 splits g = warmEntry g && any (λ (b : Block). isCold (b .marks)) g
 
+-- the warm ones, "in order"
 unfoldable pub warmPart : Graph → List ℕ → List ℕ
 unfolding keep coldAt
 warmPart g o = keep (λ (n : ℕ). not (coldAt g n)) o
 
+-- the cold ones, "in order"
 unfoldable pub coldPart : Graph → List ℕ → List ℕ
 unfolding keep coldAt
 coldPart g o = keep (coldAt g) o

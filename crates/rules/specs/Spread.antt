@@ -11,10 +11,12 @@ use Rattle.rules.specs.Graph.{Block, Graph, isCold, coldAt, numbersOf, t
 -- ---- "the least set": sweeps over all numbers until nothing joins
 
 module _ (everything : List ℕ) (joins : List ℕ → ℕ → Bool) where
+  -- one sweep
   unfoldable pub grown : List ℕ → List ℕ
   unfolding keep mem
   grown s = keep (λ (b : ℕ). mem b s || joins s b) everything
 
+  -- at most k sweeps
   unfoldable pub close : ℕ → List ℕ → List ℕ
   unfolding grown all mem
   close zero s = s
@@ -57,6 +59,7 @@ unfoldable pub spreads : Graph → Bool
 unfolding warmEntry coldBlocks
 spreads g = warmEntry g && not (eqb (length (coldBlocks g)) 0)
 
+-- the cold blocks after spreading: as read where nothing spreads
 unfoldable pub coldSet : Graph → List ℕ
 unfolding spreads coldBlocks coldFrom entry
 coldSet g = elim (spreads g) [ true ↦ coldFrom g (entry g) (coldBlocks g) | false ↦ coldBlocks g ]
@@ -70,6 +73,7 @@ chilled s b = elim (mem (b .number) s && not (isCold (b .marks))) [
       record { number = b .number; marks = b .marks + 2; end = b .end; weight = b .weight; arms = b .arms }
 ]
 
+-- the graph with them marked
 unfoldable pub spread : Graph → Graph
 unfolding coldSet chilled
 spread g = let s = coldSet g in map (chilled s) g

@@ -12,6 +12,7 @@ use Rattle.rules.specs.PlainOrder.{order}
 use Rattle.rules.specs.Weights.{once, share, floor}
 use Rattle.rules.specs.Rotate.{rotate}
 
+-- "as (likely, often)"
 pub record Round : Type 0 where
   pub likely : ℕ
   pub often : ℕ
@@ -64,12 +65,14 @@ unfolding mem foldl
 heaviestIn g laid n =
     foldl (λ (m : ℕ) (b : Block). cond (mem (b .number) laid) (foldl (λ (k : ℕ) (a : Arm). cond (eqb (a .to) n) (max k (a .weight)) k) m (b .arms)) m) 0 g
 
+-- what starts are compared by: "warm, then heaviest arm in from a laid block (0 if none), then weight"
 pub record Seed : Type 0 where
   pub block : ℕ
   pub warm : ℕ
   pub reached : ℕ
   pub weight : ℕ
 
+-- a block as a start
 unfoldable pub seedOf : Graph → List ℕ → ℕ → Seed
 unfolding heaviestIn coldAt blockAt
 seedOf g laid n = record { block = n; warm = cond (coldAt g n) 0 1; reached = heaviestIn g laid n; weight = (blockAt g n) .weight }
@@ -99,6 +102,7 @@ pub record Traced : Type 0 where
   pub starts : List ℕ
   pub found : List (List ℕ)
 
+-- nothing laid yet
 unfoldable pub noTraces : Traced
 noTraces = record { laid = []; starts = []; found = [] }
 
@@ -122,10 +126,12 @@ unfoldable pub entryTrace : Graph → Traced
 unfolding entry noTraces traceFrom floorOf
 entryTrace g = elim (entry g) [ none ↦ noTraces | some e ↦ traceFrom g (roundOne .likely) (floorOf g (roundOne .often)) noTraces e ]
 
+-- one round, with its floor
 unfoldable pub inRound : Graph → Traced → Round → Traced
 unfolding fill order floorOf
 inRound g s r = fill g (order g) (r .likely) (floorOf g (r .often)) (length g) s
 
+-- the traces in the order that they were made
 unfoldable pub traces : Graph → List (List ℕ)
 unfolding foldl inRound rounds entryTrace
 traces g = (foldl (inRound g) (entryTrace g) rounds) .found

@@ -14,10 +14,12 @@ unfoldable pub has : ℕ → Graph → Bool
 has n [] = false
 has n (b ∷ g) = eqb n (b .number) || has n g
 
+-- some block has the entry mark
 unfoldable pub hasEntry : Graph → Bool
 hasEntry [] = false
 hasEntry (b ∷ g) = isEntry (b .marks) || hasEntry g
 
+-- all arms of the graph
 unfoldable pub armTotal : Graph → ℕ
 armTotal [] = 0
 armTotal (b ∷ g) = length (b .arms) + armTotal g
@@ -27,6 +29,7 @@ abbrev pub ArmsFit : Graph → List Arm → Type 0
 ArmsFit g [] = Unit
 ArmsFit g (a ∷ l) = ((has (a .to) g ≡ true) × (a .args < 2) × (a .weight < 2 ^ 64)) × ArmsFit g l
 
+-- a block that a file can hold in this graph
 pub record BlockFits (g : Graph) (b : Block) : Type 0 where
   pub number : b .number < numbers
   pub marks : b .marks < marksBelow
@@ -40,6 +43,7 @@ abbrev pub BlocksFit : Graph → Graph → Type 0
 BlocksFit g [] = Unit
 BlocksFit g (b ∷ l) = (BlockFits g b × (has (b .number) l ≡ false) × (isEntry (b .marks) ≡ true → hasEntry l ≡ false)) × BlocksFit g l
 
+-- a graph that a file can hold
 pub record Within (g : Graph) : Type 0 where
   pub few : length g ≤ numbers
   pub few-arms : armTotal g ≤ mostArms
