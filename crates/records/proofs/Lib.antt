@@ -1,3 +1,4 @@
 pub mod Laws
 pub mod FaultLaws
 pub mod TableLaws
+pub mod StandLaws

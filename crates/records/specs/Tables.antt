@@ -2,13 +2,17 @@
 use Prim.Native.Nat.{ℕ, zero, suc, _+_, _*_, _≤_, _<_}
 use mathlib.Core.Path.{_≡_}
 use mathlib.Core.List.{List, [], _∷_, _++_}
-use lib.ListN.{length, getD, replicate}
+use mathlib.Core.Option.{Option, none, some}
+use lib.Dec.{ltb}
+use lib.ListN.{length, getD, replicate, take}
 use Rattle.limits.specs.Limits as most
+use Rattle.rules.specs.Lists.{pick}
 use Rattle.rules.specs.Graph as graph
 use Rattle.rules.specs.Records.{written}
 use Rattle.records.specs.declared.Blocks.{Blocks}
 use Rattle.records.specs.declared.Arms.{Arms}
 use Rattle.records.specs.declared.Graph.{Graph}
+use Rattle.records.specs.declared.Order.{Order}
 
 unfoldable pub armAt : Arms → ℕ → graph.Arm
 armAt a q = record { to = getD (a .to) q 0; args = getD (a .args) q 0; weight = getD (a .weight) q 0 }
@@ -115,3 +119,23 @@ pub record Holds (t : Graph) (g : graph.Graph) : Type 0 where
   pub fits : ArmsWithin (t .a) (t .arms)
   pub blocks-sized : BlocksSized (t .b)
   pub arms-sized : ArmsSized (t .a)
+
+-- The tables stand for the graph g between the passes: its numbers are below n and each is listed once, `place` being the way back,
+-- and its arms are among the first m.
+pub record Stands (n m : ℕ) (t : Graph) (g : graph.Graph) : Type 0 where
+  pub graph-is : tabled t ≡ g
+  pub few : t .blocks ≤ n
+  pub below : (i : ℕ) → i < t .blocks → getD (t .b .listed) i 0 < n
+  pub back : (i : ℕ) → i < t .blocks → getD (t .b .place) (getD (t .b .listed) i 0) 0 ≡ suc i
+  pub fits : ArmsWithin (t .a) m
+  pub blocks-sized : BlocksSized (t .b)
+  pub arms-sized : ArmsSized (t .a)
+
+-- an order of blocks
+unfoldable pub inOrder : Order → List ℕ
+inOrder o = take (o .len) (o .block)
+
+-- a block, or that there is none: numbers have no block past their room
+unfoldable pub optional : ℕ → Option ℕ
+unfolding pick
+optional n = pick (ltb n most.blocks) (some n) none

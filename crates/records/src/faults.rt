@@ -8,7 +8,7 @@ ghost use Rattle.rules.specs.Graph.{isEntry};
 ghost use Rattle.rules.specs.Refusals.{tooMany};
 ghost use Rattle.records.specs.Faults.{blockFault, armFault, noBlock, noArm, entryNext, firstNext};
 
-fn is_entry(marks: u8) -> bool
+pub fn is_entry(marks: u8) -> bool
     ensures { λ r. ⌜ r ≡ isEntry marks ⌝ }
 {
     marks % 2 == 1

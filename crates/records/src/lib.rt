@@ -1,5 +1,6 @@
 // The record format: one record of 16 bytes, what is refused of it, and the tables that a graph is held in.
 // `reader` fills the tables from a file, and `writer` makes a file of them.
+pub mod entry;
 pub mod faults;
 pub mod fields;
 
@@ -31,4 +32,10 @@ pub struct Graph {
     pub arms: usize,
     pub b: Blocks,
     pub a: Arms,
+}
+
+// An order of blocks: the first `len` numbers.
+pub struct Order {
+    pub block: [u16; BLOCKS],
+    pub len: usize,
 }

@@ -2,7 +2,7 @@
 -- Assumes nothing.
 use Prim.Native.Nat.{ℕ}
 use mathlib.Core.Path.{_≡_, refl}
-use mathlib.Core.Bool.{true}
+use mathlib.Core.Bool.{true, false}
 use mathlib.Core.List.{List, [], _∷_, _++_}
 use mathlib.Core.Option.{none}
 use lib.ListN.{drop}
@@ -69,6 +69,10 @@ coldArms = block 0 1 2 5 (arm 1 5 ∷ arm 2 5 ∷ []) ∷ block 1 2 1 5 [] ∷ b
 abbrev bothNext : Graph
 bothNext = block 0 1 2 5 (arm 1 5 ∷ arm 1 5 ∷ []) ∷ block 1 0 1 5 [] ∷ []
 
+-- a block with this end whose first arm goes to the next block and whose second does not
+abbrev firstNext : ℕ → Graph
+firstNext end = block 0 1 end 5 (arm 1 5 ∷ arm 2 5 ∷ []) ∷ block 1 0 1 5 [] ∷ block 2 0 1 5 [] ∷ []
+
 -- what a reader sees of laid blocks: number and exit
 unfoldable pub seen : List Place → List (ℕ × ℕ)
 seen [] = []
@@ -94,7 +98,12 @@ pub record Points : Type 0 where
   pub p8 : coldSet selfFed ≡ 1 ∷ []
   pub p9-bridge : seen (layout true true coldArms) ≡ (0, 2) ∷ (numbers, 1) ∷ (1, 0) ∷ (2, 0) ∷ []
   pub p9-split : splitOf true true coldArms ≡ 2
+  pub p9-answer : (n : ℕ) → laid true true coldArms (layout true true coldArms) n
+      ≡ record { refusal = 0; place = 0; needed = 0; written = n; blocks = 3; bridges = 1; moved = 0; split = 2 }
   pub p10 : seen (layout true true bothNext) ≡ (0, 2) ∷ (1, 0) ∷ []
+  -- "Its exit byte is 2 when kept or bridged, 3 when exchanged; ends 5 and 6 with two or more arms have exit 0."
+  pub exchanged : seen (layout false false (firstNext 2)) ≡ (0, 3) ∷ (1, 0) ∷ (2, 0) ∷ []
+  pub already-written : seen (layout false false (firstNext 6)) ≡ (0, 0) ∷ (numbers, 1) ∷ (1, 0) ∷ (2, 0) ∷ []
   -- "0 B 0 10000 W - - 1", "1 B 2 90000 W H L 0", "2 B 1 100000 W - L 2", "3 B 3 10000 W - - 0", "split none"
   pub printed : blocklist input
       ≡ 48 ∷ 32 ∷ 66 ∷ 32 ∷ 48 ∷ 32 ∷ 49 ∷ 48 ∷ 48 ∷ 48 ∷ 48 ∷ 32 ∷ 87 ∷ 32 ∷ 45 ∷ 32 ∷ 45 ∷ 32 ∷ 49 ∷ 10
@@ -128,7 +137,10 @@ points =
       p8 = refl;
       p9-bridge = refl;
       p9-split = refl;
+      p9-answer = λ n. refl;
       p10 = refl;
+      exchanged = refl;
+      already-written = refl;
       printed = refl;
       answered = refl;
       short = refl;
