@@ -34,7 +34,7 @@ some-arms a n e = go (getD (a .count) n 0) e
     go zero e = refl
     go (suc c) e = let z : _≡_ {A = ℕ} 0 1 = cc in absurd (omega arith)
 
-arms-count : (a : Arms) (f c : ℕ) → length (armsFrom a f c) ≡ c
+pub arms-count : (a : Arms) (f c : ℕ) → length (armsFrom a f c) ≡ c
 unfolding armsFrom
 arms-count a f zero = refl
 arms-count a f (suc c) = ap suc (arms-count a (suc f) c)

@@ -26,6 +26,10 @@ armsFrom a f (suc n) = armAt a f ∷ armsFrom a (suc f) n
 abbrev pub onlyBlocks : List ℕ → List ℕ → List ℕ → List ℕ → Blocks
 onlyBlocks listed marks ends weight = record { place = []; listed = listed; marks = marks; ends = ends; weight = weight }
 
+-- all of the blocks' tables
+abbrev pub blockTables : List ℕ → List ℕ → List ℕ → List ℕ → List ℕ → Blocks
+blockTables place listed marks ends weight = record { place = place; listed = listed; marks = marks; ends = ends; weight = weight }
+
 -- numbers alone
 abbrev pub onlyListed : List ℕ → Blocks
 onlyListed listed = onlyBlocks listed [] [] []

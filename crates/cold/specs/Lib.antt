@@ -1,0 +1,3 @@
+pub mod Sides
+pub mod Ways
+pub mod Sweeps

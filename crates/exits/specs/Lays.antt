@@ -1,0 +1,170 @@
+-- An order laid step by step, and the places that the tables have.
+use Prim.Native.Nat.{ℕ, zero, suc, _+_, _≤_, _<_}
+use mathlib.Core.Path.{_≡_}
+use mathlib.Core.Bool.{Bool, true, false, cond, _||_}
+use mathlib.Core.List.{List, [], _∷_, _++_}
+use mathlib.Core.Option.{Option, none}
+use lib.Dec.{eqb, ltb, leb}
+use lib.ListN.{length, getD, take, drop}
+use Rattle.limits.specs.Limits.{numbers, mostArms, blocks, arms}
+use Rattle.rules.specs.declared.Leaving.{Leaving}
+use Rattle.rules.specs.declared.Leaving.the-variants.{Nothing, Jump, Branch, Exchanged, Bridge}
+use Rattle.rules.specs.Lists.{pick}
+use Rattle.rules.specs.Graph as graph
+use Rattle.rules.specs.Exits.{Place, indirect, edges, laidBlock, bridgeOf, newAfter, layPart, bridges, laidGraph}
+use Rattle.rules.specs.Within.{armTotal}
+use Rattle.rules.proofs.Membership.{In}
+use Rattle.records.specs.declared.Blocks.{Blocks}
+use Rattle.records.specs.declared.Arms.{Arms}
+use Rattle.records.specs.declared.Graph.{Graph}
+use Rattle.records.specs.declared.Order.{Order}
+use Rattle.records.specs.Tables.{armAt, optional, blockAt, tabled, BlocksSized, ArmsSized, ArmsWithin, Stands, inOrder}
+use Rattle.exits.specs.declared.Laid.{Laid}
+
+-- ---- the decision, by the few things that decide it: the end, how many arms there are, and whether the first and the second go
+-- to the next block
+unfoldable pub leavingOf : ℕ → ℕ → Bool → Bool → Leaving
+unfolding indirect pick
+leavingOf end zero x y = Nothing
+leavingOf end (suc zero) x y = pick (indirect end || x) Nothing Jump
+leavingOf end (suc (suc n)) x y =
+    pick (indirect end) Nothing (
+    pick (eqb end 5) (pick x Nothing (Bridge 0)) (
+    pick (eqb end 6) (pick y Nothing (Bridge 1)) (
+    pick y Branch (pick x Exchanged (Bridge 1)))))
+
+-- arm j of the c arms from arm f on goes to the next block
+unfoldable pub goesTo : List ℕ → ℕ → ℕ → ℕ → Option ℕ → Bool
+goesTo to f c j next = cond (ltb j c) (graph.names next (getD to (f + j) 0)) false
+
+-- which arm of c stands at j when a block is left: "exchange"
+unfoldable pub sourceOf : Leaving → ℕ → ℕ → ℕ
+sourceOf Nothing c j = j
+sourceOf Jump c j = j
+sourceOf Branch c j = j
+sourceOf Exchanged c j = cond (ltb c 2) j (cond (eqb j 0) 1 (cond (eqb j 1) 0 j))
+sourceOf (Bridge i) c j = j
+
+-- arm j goes to a bridge
+unfoldable pub bridgedAt : Leaving → ℕ → Bool
+bridgedAt Nothing j = false
+bridgedAt Jump j = false
+bridgedAt Branch j = false
+bridgedAt Exchanged j = false
+bridgedAt (Bridge i) j = eqb i j
+
+-- the arm that a bridge takes, or past all arms
+unfoldable pub bridgeArm : Leaving → ℕ
+bridgeArm Nothing = arms
+bridgeArm Jump = arms
+bridgeArm Branch = arms
+bridgeArm Exchanged = arms
+bridgeArm (Bridge i) = i
+
+-- the arms before arm q are the same
+abbrev pub Below : ℕ → Arms → Arms → Type 0
+Below q a b = (x : ℕ) → x < q → armAt a x ≡ armAt b x
+
+-- ---- the steps
+
+-- the next block of the part that place i of an order is in: a part ends at the split and at the order's end
+unfoldable pub nextAt : List ℕ → ℕ → ℕ → Option ℕ
+nextAt o split i = cond (eqb (suc i) split) none (cond (ltb (suc i) (length o)) (optional (getD o (suc i) 0)) none)
+
+-- the blocks are found by `at`
+module _ (at : ℕ → graph.Block) (o : List ℕ) (split : ℕ) where
+  -- how the block at place i of the order is left
+  unfoldable pub leaveAt : ℕ → Leaving
+  leaveAt i = let b = at (getD o i 0) in edges (nextAt o split i) (b .end) (b .arms)
+
+  -- the number that a bridge made at place i gets
+  unfoldable pub newTo : ℕ → ℕ
+  unfolding newAfter leaveAt
+  newTo zero = numbers
+  newTo (suc i) = newAfter (newTo i) (leaveAt i)
+
+  -- what is laid at place i of the order: its block, and the bridge if one is made
+  unfoldable pub laidAt : ℕ → List Place
+  unfolding laidBlock bridgeOf leaveAt newTo
+  laidAt i = let b = at (getD o i 0) in laidBlock (newTo i) b (leaveAt i) ∷ bridgeOf (newTo i) (leb split i) b (leaveAt i)
+
+  -- the first i blocks of the order, laid
+  unfoldable pub laidTo : ℕ → List Place
+  unfolding laidAt
+  laidTo zero = []
+  laidTo (suc i) = laidTo i ++ laidAt i
+
+-- ---- the places of the tables
+
+unfoldable pub placeAt : Blocks → Arms → List ℕ → ℕ → Place
+placeAt b a exits n = record { block = blockAt b a n; isBridge = leb numbers n; exit = getD exits n 0 }
+
+-- the first p places
+unfoldable pub placesTo : Blocks → Arms → List ℕ → ℕ → List Place
+placesTo b a exits zero = []
+placesTo b a exits (suc p) = placesTo b a exits p ++ (placeAt b a exits (getD (b .listed) p 0) ∷ [])
+
+-- how many arms the first i blocks of an order have
+unfoldable pub armsTo : List ℕ → List ℕ → ℕ → ℕ
+armsTo count o zero = 0
+armsTo count o (suc i) = armsTo count o i + getD count (getD o i 0) 0
+
+-- an order that can be laid: its numbers are below those of bridges, none comes twice, and its arms leave room for those of bridges
+pub record Orderly (count o : List ℕ) : Type 0 where
+  pub few : length o ≤ numbers
+  pub low : (i : ℕ) → i < length o → getD o i 0 < numbers
+  pub once : (i j : ℕ) → i < length o → j < length o → getD o i 0 ≡ getD o j 0 → i ≡ j
+  pub total : armsTo count o (length o) ≤ mostArms
+
+-- p places and q arms are in the tables
+pub record Placed (b : Blocks) (a : Arms) (e : List ℕ) (p q : ℕ) : Type 0 where
+  pub back : (x : ℕ) → x < p → getD (b .place) (getD (b .listed) x 0) 0 ≡ suc x
+  pub within : ArmsWithin a q
+  pub blocks-sized : BlocksSized b
+  pub arms-sized : ArmsSized a
+  pub exits-sized : length e ≡ blocks
+
+-- the block of the tables with this number
+abbrev pub at : Blocks → Arms → ℕ → graph.Block
+at b a n = blockAt b a n
+
+-- of the order o, split here, i blocks and k bridges are laid; b₀ and a₀ are the tables that it is laid from
+pub record Laying (b₀ : Blocks) (a₀ : Arms) (o : List ℕ) (split : ℕ) (b : Blocks) (a : Arms) (e : List ℕ) (p q k i : ℕ) : Type 0 where
+  pub placed : Placed b a e p q
+  pub places : placesTo b a e p ≡ laidTo (at b₀ a₀) o split i
+  pub p-is : p ≡ i + k
+  pub few : k ≤ i
+  pub within : i ≤ length o
+  pub new-is : newTo (at b₀ a₀) o split i ≡ numbers + k
+  pub q-is : q ≡ armsTo (a₀ .count) o i + k
+  pub unlaid : (j : ℕ) → i ≤ j → j < length o → getD (b .place) (getD o j 0) 0 ≡ 0
+  pub spare : (m : ℕ) → numbers + k ≤ m → getD (b .place) m 0 ≡ 0
+  pub marks : (m : ℕ) → m < numbers → getD (b .marks) m 0 ≡ getD (b₀ .marks) m 0
+  pub ends : (m : ℕ) → m < numbers → getD (b .ends) m 0 ≡ getD (b₀ .ends) m 0
+  pub weight : (m : ℕ) → m < numbers → getD (b .weight) m 0 ≡ getD (b₀ .weight) m 0
+
+-- ---- the whole
+
+-- an order whose cold part begins at this place, or that has none, as it is laid
+unfoldable pub layAt : graph.Graph → List ℕ → ℕ → List Place
+unfolding layPart bridges
+layAt g o split =
+    cond (ltb split blocks)
+    (let w = layPart g false numbers (take split o) in w ++ layPart g true (numbers + bridges w) (drop split o))
+    (layPart g false numbers o)
+
+-- what the tables, an order and its split are to be for it to be laid
+pub record Layable (t : Graph) (o : Order) (split : ℕ) : Type 0 where
+  pub few : o .len ≤ numbers
+  pub sized : length (o .block) ≡ blocks
+  pub orderly : Orderly (t .a .count) (inOrder o)
+  pub listed : (i : ℕ) → i < o .len → In (getD (o .block) i 0) (graph.numbersOf (tabled t))
+  pub inside : split < blocks → split ≤ o .len
+
+-- what the tables of a laid order hold
+pub record LaidOf (g : graph.Graph) (o : List ℕ) (split : ℕ) (r : Laid) : Type 0 where
+  pub places : placesTo (r .graph .b) (r .graph .a) (r .exits) (r .graph .blocks) ≡ layAt g o split
+  pub stands : Stands blocks arms (r .graph) (laidGraph (layAt g o split))
+  pub bridged : r .bridges ≡ bridges (layAt g o split)
+  pub total : r .graph .arms ≡ armTotal (laidGraph (layAt g o split))
+  pub exits-sized : length (r .exits) ≡ blocks
