@@ -61,7 +61,7 @@ module _ (b₀ : Blocks) (a₀ : Arms) (o : List ℕ) (split : ℕ) (marks ends 
   }
 
 -- ---- after
-places-graph : (b : Blocks) (a : Arms) (e : List ℕ) (p : ℕ) → laidGraph (placesTo b a e p) ≡ upTo b a p
+pub places-graph : (b : Blocks) (a : Arms) (e : List ℕ) (p : ℕ) → laidGraph (placesTo b a e p) ≡ upTo b a p
 unfolding laidGraph placesTo upTo placeAt
 places-graph b a e zero = refl
 places-graph b a e (suc p) =

@@ -14,9 +14,8 @@ use Rattle.rules.specs.Forward.{movedArms, movedBlock, elsewhere, movesBetween}
 use Rattle.rules.proofs.Membership.{pick-ind, map-append}
 use Rattle.records.specs.declared.Blocks.{Blocks}
 use Rattle.records.specs.declared.Arms.{Arms}
-use Rattle.records.specs.Tables.{armAt, armsFrom, leaves, blockAt, upTo, optional}
+use Rattle.records.specs.Tables.{Has, armAt, armsFrom, leaves, blockAt, upTo, optional}
 use Rattle.records.proofs.TableLaws.{leaves-count, upTo-length}
-use Rattle.forwarding.specs.Apart.{Has}
 use Rattle.forwarding.specs.Steps.{oursOf, hopOf, turnedOf, turnOf, moveOf, turnsOf, movedOf}
 use Rattle.forwarding.proofs.StepLaws.{turn-not, turn-ours}
 use Rattle.forwarding.proofs.ArmMoves.{withTo, arms-same, outside, moved-all, moves-counted, elsewhere-none}

@@ -17,10 +17,10 @@ use Rattle.rules.proofs.Wholeness.{Whole, block-in, arm-target}
 use Rattle.records.specs.declared.Blocks.{Blocks}
 use Rattle.records.specs.declared.Arms.{Arms}
 use Rattle.records.specs.declared.Graph.{Graph}
-use Rattle.records.specs.Tables.{armAt, armsFrom, leaves, blockAt, upTo, tabled, optional, Stands}
+use Rattle.records.specs.Tables.{Has, Apart, armAt, armsFrom, leaves, blockAt, upTo, tabled, optional, Stands}
 use Rattle.records.proofs.StandLaws.{listed-in, in-listed, find-listed}
 use Rattle.forwarding.specs.declared.Forwarded.{Forwarded}
-use Rattle.forwarding.specs.Apart.{Has, Apart, Forwards}
+use Rattle.forwarding.specs.Forwards.{Forwards}
 use Rattle.forwarding.specs.Steps.{goalsOf, turnsOf, movedOf, reachedOf, clearable, blocksWith, armsWith, cleared, Safe, FirstIn, Sure}
 use Rattle.forwarding.proofs.StepLaws.{turns-small}
 use Rattle.forwarding.proofs.GoalLaws.{fOf, small, safe, goal-is, goals-get}

@@ -1,2 +1,2 @@
-pub mod Apart
+pub mod Forwards
 pub mod Steps

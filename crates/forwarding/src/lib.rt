@@ -9,8 +9,8 @@ ghost use lib.ListN.{length, getD};
 ghost use Rattle.limits.specs.Limits.{numbers, mostArms, blocks, arms};
 ghost use Rattle.rules.specs.Graph.{isDead, hasParameters, isNamed, isAddressed};
 ghost use Rattle.rules.proofs.Wholeness.{Whole};
-ghost use Rattle.records.specs.Tables.{tabled, Stands};
-ghost use Rattle.forwarding.specs.Apart.{Apart, Forwards};
+ghost use Rattle.records.specs.Tables.{tabled, Apart, Stands};
+ghost use Rattle.forwarding.specs.Forwards.{Forwards};
 ghost use Rattle.forwarding.specs.Steps.{oursOf, plain, passing, throughOf, chain, Safe, goalOf, goalsOf, goesTo, hopOf, differ, turnedOf, turnOf, moveOf, turnsOf, movedOf, reachOf, reachedOf, uselessOf, deadOf, cleared, FirstIn, Sure};
 
 // The graph with its arms moved, and how many moved.

@@ -25,7 +25,7 @@ use Rattle.rules.specs.Refusals.{placeOf, entryOf, armCount, lastOf, listed, re
 use Rattle.rules.proofs.Verdicts.{first-after, clear-join}
 use Rattle.rules.proofs.Listed.{place-one, none-arms, none-last, late-arms}
 use Rattle.records.specs.declared.Arms.{Arms}
-use Rattle.records.specs.Tables.{armAt, armsFrom, leaves, noArms, ArmsSized, ArmsWithin}
+use Rattle.records.specs.Tables.{armAt, armsFrom, leaves, noArms, ArmsSized, ArmsWithin, Has}
 use Rattle.records.specs.Faults.{armFault, noArm, firstNext}
 use Rattle.records.proofs.TableLaws.{arms-kept, arms-more, some-arms}
 use Rattle.reader.specs.Reads.{at, IsBlock, onward, Starts, ArmsHeld, ArmsAfter}
@@ -91,6 +91,7 @@ arms-start l₀ place t m h =
       place-is = h .place-is;
       each = λ n. none-leave n ∙ sym (none-arms n l₀ (h .armless));
       next = λ n p q. omega (arith, none-first n, none-count n);
+      apart = λ n m d q x y. omega (arith, none-count n, x .from, x .below);
       same = λ arms. refl;
       entry-same = refl;
       long = sym (add-zero (length l₀));
@@ -170,6 +171,18 @@ module _ (a : Arms) (j from to args weight : ℕ) (sized : ArmsSized a) (fits : 
       rw (first-other n d, count-other n d)
       (arms-kept (added a j from to args weight) a j arm-same (getD (a .count) n 0) (getD (a .first) n 0) (fits n))
 
+  -- each of them
+  had-other : (n q : ℕ) → (n ≡ from → ⊥) → Has (added a j from to args weight) n q → Has a n q
+  had-other n q d x =
+      record {
+        from = omega (arith, first-other n d, x .from);
+        below = omega (arith, first-other n d, count-other n d, x .below);
+      }
+
+  -- and before the new one
+  before-new : (n q : ℕ) → (n ≡ from → ⊥) → Has (added a j from to args weight) n q → q < j
+  before-new n q d x = omega (arith, had-other n q d x .below, fits n)
+
   module _ (full : (getD (a .count) from 0 ≡ 0 → ⊥) → getD (a .first) from 0 + getD (a .count) from 0 ≡ j) where
     pub ends-at : firstNext (getD (a .first) from 0) (getD (a .count) from 0) j + getD (a .count) from 0 ≡ j
     unfolding firstNext
@@ -177,6 +190,34 @@ module _ (a : Arms) (j from to args weight : ℕ) (sized : ArmsSized a) (fits : 
         split-eq (getD (a .count) from 0)
         (λ z. rw (eq-eqb (getD (a .count) from 0) 0 z) (omega (arith, z)))
         (λ z. rw (ne-eqb (getD (a .count) from 0) 0 z) (full z))
+
+    had-from : (q : ℕ) → q < j → Has (added a j from to args weight) from q → Has a from q
+    unfolding firstNext
+    had-from q l x =
+        split-eq (getD (a .count) from 0)
+        (λ z. absurd (omega (arith, l, x .from, first-same, ends-at, z)))
+        (λ z.
+        let e : firstNext (getD (a .first) from 0) (getD (a .count) from 0) j ≡ getD (a .first) from 0 = rw (ne-eqb (getD (a .count) from 0) 0 z) in
+        record { from = omega (arith, first-same, e, x .from); below = omega (arith, full z, l) })
+
+    -- an arm before the new one was its block's already
+    had : (n q : ℕ) → q < j → Has (added a j from to args weight) n q → Has a n q
+    had n q l x =
+        split-bool (eqb n from)
+        (λ e.
+        let k = eqb-true n from e in
+        subst (λ (m : ℕ). Has a m q) (sym k) (had-from q l (subst (λ (m : ℕ). Has (added a j from to args weight) m q) k x)))
+        (λ e. had-other n q (eqb-false n from e) x)
+
+    -- no arm is two blocks': of two blocks one is not the new arm's, so it is an arm from before
+    pub added-apart : ((n m : ℕ) → (n ≡ m → ⊥) → (q : ℕ) → Has a n q → Has a m q → ⊥)
+        → (n m : ℕ) → (n ≡ m → ⊥) → (q : ℕ) → Has (added a j from to args weight) n q → Has (added a j from to args weight) m q → ⊥
+    added-apart apart n m d q x y =
+        let l : q < j =
+        split-bool (eqb n from)
+        (λ e. before-new m q (λ k. d (eqb-true n from e ∙ sym k)) y)
+        (λ e. before-new n q (eqb-false n from e) x) in
+        apart n m d q (had n q l x) (had m q l y)
 
     before-it : armsFrom a (firstNext (getD (a .first) from 0) (getD (a .count) from 0) j) (getD (a .count) from 0) ≡ leaves a from
     unfolding leaves firstNext armsFrom
@@ -282,6 +323,7 @@ module _ (l₀ : List Record) (place t : List ℕ) (m j last : ℕ) (a : Arms) (
             place-is = λ n. rw e (h .place-is n);
             each = λ n. rw e (each-next n);
             next = λ n. rw e (next-next n);
+            apart = added-apart a j from to args weight sized fits inside room full (h .apart);
             same = λ f. rw e (append-nil (blocksOf f l) ∙ h .same f);
             entry-same = rw e (h .entry-same);
             long = omega (arith, h .long);

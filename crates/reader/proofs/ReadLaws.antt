@@ -56,6 +56,10 @@ module _ (s : List ℕ) (i entry : ℕ) (b : Blocks) (h : BlocksHeld s i entry b
         ended = λ z k. d (omega (arith, z)) (subst IsBlock (record-drop s i 0 ∙ ap (recordAt s) (add-zero i)) k);
       }
 
+  -- a number is listed at one place
+  listed-one : (j m : ℕ) → j < i → m < i → getD (b .listed) j 0 ≡ getD (b .listed) m 0 → j ≡ m
+  listed-one j m x y e = omega (arith, sym (h .back j x) ∙ ap (λ (n : ℕ). getD (b .place) n 0) e ∙ h .back m y)
+
   -- the tables' blocks are the records', with the same arms
   upTo-is : (a : Arms) (f : ℕ → List graph.Arm) → ((n : ℕ) → leaves a n ≡ f n) → (j : ℕ) → j ≤ i → upTo b a j ≡ blocksOf f (before s j)
   unfolding upTo before blocksOf listing blockAt
@@ -85,6 +89,7 @@ module _ (s : List ℕ) (i entry : ℕ) (b : Blocks) (h : BlocksHeld s i entry b
           fits = fits;
           blocks-sized = h .sized;
           arms-sized = sized;
+          apart = λ j m x y d. k .apart (getD (b .listed) j 0) (getD (b .listed) m 0) (λ e. d (listed-one j m x y e));
         }
 
     module _ (short : length s ≤ mostBytes) (whole : length s % size ≡ 0) (all : n ≡ length s / size) (p : ℕ) (q : PanicOf (b .listed) (b .ends) (a .count) i p) where

@@ -17,7 +17,7 @@ use Rattle.records.specs.declared.Arms.{Arms}
 use Rattle.reader.specs.declared.BlocksRead.{BlocksRead}
 use Rattle.reader.specs.declared.ArmsRead.{ArmsRead}
 use Rattle.reader.specs.declared.Reading.{Reading}
-use Rattle.records.specs.Tables.{leaves, BlocksSized, Blank, Holds}
+use Rattle.records.specs.Tables.{leaves, BlocksSized, Blank, Has, Holds}
 
 abbrev pub at : ℕ → ℕ → Verdict
 at number place = record { number = number; place = place }
@@ -72,6 +72,7 @@ pub record ArmsHeld (l₀ : List Record) (place : List ℕ) (l : List Record) (j
   pub place-is : (n : ℕ) → getD place n 0 ≡ placeOf n l
   pub each : (n : ℕ) → leaves a n ≡ armsOf n l
   pub next : (n : ℕ) → 0 < placeOf n l → placeOf n l ≡ lastOf l → getD (a .first) n 0 + getD (a .count) n 0 ≡ j
+  pub apart : (n m : ℕ) → (n ≡ m → ⊥) → (q : ℕ) → Has a n q → Has a m q → ⊥
   pub same : (arms : ℕ → List graph.Arm) → blocksOf arms l ≡ blocksOf arms l₀
   pub entry-same : entryOf l ≡ entryOf l₀
   pub long : length l ≡ length l₀ + j

@@ -63,6 +63,12 @@ fn no_arms() -> Arms
     }
 }
 
+fn stopped(why: u64, at: usize, entry: usize, b: Blocks) -> BlocksRead
+    ensures { λ r. ⌜ r ≡ record { why = why; at = at; entry = entry; b = b } ⌝ }
+{
+    BlocksRead { why, at, entry, b }
+}
+
 // The n records of s, up to the first that is no block or is refused.
 fn read_blocks(s: &[u8], n: usize) -> BlocksRead
     requires { ⌜ (size * n ≤ length (now s)) × (n ≤ arms) ⌝ }
@@ -81,21 +87,11 @@ fn read_blocks(s: &[u8], n: usize) -> BlocksRead
             weight,
         } = r
         else {
-            return BlocksRead {
-                why: faults::no_block(r),
-                at: i,
-                entry,
-                b,
-            };
+            return stopped(faults::no_block(r), i, entry, b);
         };
         let why = faults::block_fault(lists::entry_of(&b.place, number), entry, marks);
         if why != 0 {
-            return BlocksRead {
-                why,
-                at: i,
-                entry,
-                b,
-            };
+            return stopped(why, i, entry, b);
         }
         let k = number as usize;
         entry = faults::entry_next(entry, marks, i);
@@ -106,12 +102,7 @@ fn read_blocks(s: &[u8], n: usize) -> BlocksRead
         b.weight[k] = weight;
         i = i + 1;
     }
-    BlocksRead {
-        why: 0,
-        at: i,
-        entry,
-        b,
-    }
+    stopped(0, i, entry, b)
 }
 
 // The m records of t, which come after the blocks; `place` says where each block is listed.
@@ -133,11 +124,8 @@ fn read_arms(t: &[u8], place: &[u16; BLOCKS], m: usize) -> ArmsRead
             weight,
         } = r
         else {
-            return ArmsRead {
-                why: faults::no_arm(r),
-                at: j,
-                a,
-            };
+            let why = faults::no_arm(r);
+            return ArmsRead { why, at: j, a };
         };
         let here = lists::entry_of(place, from);
         let why = faults::arm_fault(here, lists::entry_of(place, to), last, j);

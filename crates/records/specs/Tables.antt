@@ -110,8 +110,18 @@ pub record Blank (b : Blocks) (n : ℕ) : Type 0 where
   pub ends : getD (b .ends) n 0 ≡ 0
   pub weight : getD (b .weight) n 0 ≡ 0
 
+-- arm q is one of block n's
+pub record Has (a : Arms) (n q : ℕ) : Type 0 where
+  pub from : getD (a .first) n 0 ≤ q
+  pub below : q < getD (a .first) n 0 + getD (a .count) n 0
+
+-- no arm is two blocks'
+abbrev pub Apart : Graph → Type 0
+Apart t =
+    (i j : ℕ) → i < t .blocks → j < t .blocks → (i ≡ j → ⊥) → (q : ℕ) → Has (t .a) (getD (t .b .listed) i 0) q → Has (t .a) (getD (t .b .listed) j 0) q → ⊥
+
 -- The tables hold the graph g, whose file is `total` long: each block once in `listed`, `place` the way back, nothing at numbers
--- that are not listed, and no arm past the last.
+-- that are not listed, no arm past the last, and none that is two blocks'.
 pub record Holds (t : Graph) (g : graph.Graph) : Type 0 where
   pub graph-is : tabled t ≡ g
   pub few : t .blocks ≤ most.numbers
@@ -123,6 +133,7 @@ pub record Holds (t : Graph) (g : graph.Graph) : Type 0 where
   pub fits : ArmsWithin (t .a) (t .arms)
   pub blocks-sized : BlocksSized (t .b)
   pub arms-sized : ArmsSized (t .a)
+  pub apart : Apart t
 
 -- The tables stand for the graph g between the passes: its numbers are below n and each is listed once, `place` being the way back,
 -- and its arms are among the first m.

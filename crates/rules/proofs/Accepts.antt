@@ -274,7 +274,7 @@ unfolding armsBytes armTotal
 arms-bytes [] = refl
 arms-bytes (b ∷ g) = simp length-append (omega (arith, leaving-bytes (b .number) (b .arms), arms-bytes g))
 
-file-bytes : (g : Graph) → length (written g) ≡ size * length g + size * armTotal g
+pub file-bytes : (g : Graph) → length (written g) ≡ size * length g + size * armTotal g
 unfolding written
 file-bytes g = simp length-append (omega (arith, blocks-bytes g, arms-bytes g))
 

@@ -45,3 +45,4 @@ pub mod FinishOrder
 pub mod Pieces
 pub mod TwoWalks
 pub mod Passes
+pub mod Bounds

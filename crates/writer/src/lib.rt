@@ -76,7 +76,7 @@ fn put_leaving<'a>(
 }
 
 // The records of the arms of the first n listed blocks, behind n records.
-fn put_arms<'a>(
+pub fn put_arms<'a>(
     listed: &'a [u16; BLOCKS],
     first: &'a [u16; BLOCKS],
     count: &'a [u16; BLOCKS],

@@ -22,22 +22,23 @@ loop-holds c =
 
 returns : tie.Need-returns Inv-loop μ-loop
 returns c =
-    let l = c .before .before .before .before .before .loop in
-    let s = c .before .before .before .before .before .before .before .before .args .s .now in
-    rw (c .no-block .ensures)
-    (ends-at s (l .i) (c .before .before .before .before .before .before .before .before .args .n) (l .entry) (l .b) (l .inv .1) (c .before .before .before .before .loop-test .taken) (c .before .before .decode .result) (sym (part-record s (l .i)) ∙ sym (c .before .before .decode .ensures))
-    (not-block (c .before .before .decode .result) (c .before .match .keys2)))
+    let l = c .before .before .before .before .before .before .loop in
+    let s = c .before .before .before .before .before .before .before .before .before .args .s .now in
+    rw (c .stopped .ensures, c .before .no-block .ensures)
+    (ends-at s (l .i) (c .before .before .before .before .before .before .before .before .before .args .n) (l .entry) (l .b) (l .inv .1) (c .before .before .before .before .before .loop-test .taken) (c .before .before .before .decode .result) (sym (part-record s (l .i)) ∙ sym (c .before .before .before .decode .ensures))
+    (not-block (c .before .before .before .decode .result) (c .before .before .match .keys2)))
 
 entry-of-requires : tie.Need-entry-of-requires Inv-loop μ-loop
 entry-of-requires c κs = c .before .before .before .before .before .before .before .before .loop .inv .1 .sized .place
 
 returns-2 : tie.Need-returns-2 Inv-loop μ-loop
 returns-2 c =
-    let l = c .before .before .before .before .before .before .before .before .before .before .before .loop in
-    let s = c .before .before .before .before .before .before .before .before .before .before .before .before .before .before .args .s .now in
-    stops-at s (l .i) _ (l .entry) (l .b) (l .inv .1) (c .before .before .before .before .before .before .before .before .before .before .loop-test .taken) _
-    (block-refused s (l .i) (l .entry) (l .b) (l .inv .1) _ _ _ _ (sym (part-record s (l .i)) ∙ sym (c .before .before .before .before .before .before .before .before .decode .ensures) ∙ c .before .before .before .before .before .before .r .given .1) _
-    (c .before .block-fault .ensures ∙ rw (c .before .before .entry-of .ensures)) (c .if1 .taken)) (c .if1 .taken)
+    let l = c .before .before .before .before .before .before .before .before .before .before .before .before .loop in
+    let s = c .before .before .before .before .before .before .before .before .before .before .before .before .before .before .before .args .s .now in
+    rw (c .stopped2 .ensures)
+    (stops-at s (l .i) _ (l .entry) (l .b) (l .inv .1) (c .before .before .before .before .before .before .before .before .before .before .before .loop-test .taken) _
+    (block-refused s (l .i) (l .entry) (l .b) (l .inv .1) _ _ _ _ (sym (part-record s (l .i)) ∙ sym (c .before .before .before .before .before .before .before .before .before .decode .ensures) ∙ c .before .before .before .before .before .before .before .r .given .1) _
+    (c .before .before .block-fault .ensures ∙ rw (c .before .before .before .entry-of .ensures)) (c .before .if1 .taken)) (c .before .if1 .taken))
 
 mul-b : tie.Need-mul-b Inv-loop μ-loop
 mul-b c =
@@ -94,12 +95,13 @@ loop-again c =
 
 returns-3 : tie.Need-returns-3 Inv-loop μ-loop
 returns-3 c =
-    record {
-      within = c .before .loop .inv .0;
+    rw (c .stopped3 .ensures)
+    (record {
+      within = c .before .before .loop .inv .0;
       refused = λ z. absurd (z refl);
-      held = λ z. c .before .loop .inv .1;
+      held = λ z. c .before .before .loop .inv .1;
       ended = λ z k. absurd (omega arith);
-    }
+    })
 
 pub read-blocks-spec : {M : Type 1} → statement M
 read-blocks-spec =
@@ -117,8 +119,10 @@ read-blocks-spec =
     (λ c κs. search needs)
     (λ c. search needs)
     (λ c κs. search needs)
+    (λ c κs. search needs)
     returns
     entry-of-requires
+    (λ c κs. search needs)
     (λ c κs. search needs)
     returns-2
     (λ c. search needs)
@@ -136,4 +140,5 @@ read-blocks-spec =
     (λ c. search needs)
     (λ c. search needs)
     loop-again
+    (λ c κs. search needs)
     returns-3)

@@ -55,8 +55,8 @@ loop-again c =
     let h = subst (Going _ _ _ _ _ _ _ (l .seen) (l .done) (l .at)) (p .ensures .1) (l .inv .0) in
     (turn-end h (omega (arith, c .if2 .taken, e .entry-of .ensures)) (omega (arith, size-most (l .seen))), omega (arith, p .ensures .0))
 
-target-requires : tie.Need-target-requires Inv-loop μ-loop
-target-requires c κs =
+leads-to-requires : tie.Need-leads-to-requires Inv-loop μ-loop
+leads-to-requires c κs =
     let e = c .before in
     let l = e .before .before .before .before .before .loop in
     let p = e .before .before .pop in
@@ -102,7 +102,7 @@ loop-again-2 c =
     let x = e .before .before .before .before .before .before .args in
     let h = subst (Going _ _ _ _ _ _ _ (l .seen) (l .done) (l .at)) (p .ensures .1) (l .inv .0) in
     let lt : p .result .arm < getD (x .count .now) (p .result .block) 0 = omega (arith, c .before .before .before .before .before .if2 .left, e .entry-of .ensures) in
-    let is = c .before .before .before .before .target .ensures ∙ ap (λ (k : ℕ). getD (lastFirst (x .to .now) (getD (x .first .now) (p .result .block) 0) k) (p .result .arm) 0) (e .entry-of .ensures) in (
+    let is = c .before .before .before .before .leads-to .ensures ∙ ap (λ (k : ℕ). getD (lastFirst (x .to .now) (getD (x .first .now) (p .result .block) 0) k) (p .result .arm) 0) (e .entry-of .ensures) in (
       subst (Going _ _ _ _ _ _ _ (l .seen) (l .done) (l .at)) (sym (c .push .ensures .1)) (turn-old h _ lt is (sym (c .before .before .is-marked .ensures) ∙ c .before .if3 .taken)),
       omega (arith, p .ensures .0, c .push .ensures .0, l .inv .1),
     )
@@ -115,7 +115,7 @@ mark-requires c κs =
     let x = e .before .before .before .before .before .before .args in
     let h = subst (Going _ _ _ _ _ _ _ (l .seen) (l .done) (l .at)) (p .ensures .1) (l .inv .0) in
     let lt : p .result .arm < getD (x .count .now) (p .result .block) 0 = omega (arith, c .before .before .before .before .before .if2 .left, e .entry-of .ensures) in
-    let is = c .before .before .before .before .target .ensures ∙ ap (λ (k : ℕ). getD (lastFirst (x .to .now) (getD (x .first .now) (p .result .block) 0) k) (p .result .arm) 0) (e .entry-of .ensures) in
+    let is = c .before .before .before .before .leads-to .ensures ∙ ap (λ (k : ℕ). getD (lastFirst (x .to .now) (getD (x .first .now) (p .result .block) 0) k) (p .result .arm) 0) (e .entry-of .ensures) in
     (l .inv .0 .seen-sized, arm-low h _ lt is)
 
 add-push-2 : tie.Need-add-push-2 Inv-loop μ-loop
@@ -139,7 +139,7 @@ push-requires-3 c κs =
     let l = e .before .before .before .before .before .loop in
     let p = e .before .before .pop in
     let x = e .before .before .before .before .before .before .args in
-    let t = c .before .before .before .before .before .before .target in
+    let t = c .before .before .before .before .before .before .leads-to in
     let h = subst (Going _ _ _ _ _ _ _ (l .seen) (l .done) (l .at)) (p .ensures .1) (l .inv .0) in
     let lt : p .result .arm < getD (x .count .now) (p .result .block) 0 = omega (arith, c .before .before .before .before .before .before .before .if2 .left, e .entry-of .ensures) in
     let is = t .ensures ∙ ap (λ (k : ℕ). getD (lastFirst (x .to .now) (getD (x .first .now) (p .result .block) 0) k) (p .result .arm) 0) (e .entry-of .ensures) in
@@ -153,7 +153,7 @@ loop-less-3 c =
     let p = e .before .before .pop in
     let x = e .before .before .before .before .before .before .args in
     let up = c .before .push2 in
-    let t = c .before .before .before .before .before .before .before .target in
+    let t = c .before .before .before .before .before .before .before .leads-to in
     let m = c .before .before .mark in
     let h = subst (Going _ _ _ _ _ _ _ (l .seen) (l .done) (l .at)) (p .ensures .1) (l .inv .0) in
     let lt : p .result .arm < getD (x .count .now) (p .result .block) 0 = omega (arith, c .before .before .before .before .before .before .before .before .if2 .left, e .entry-of .ensures) in
@@ -168,7 +168,7 @@ loop-again-3 c =
     let p = e .before .before .pop in
     let x = e .before .before .before .before .before .before .args in
     let up = c .before .push2 in
-    let t = c .before .before .before .before .before .before .before .target in
+    let t = c .before .before .before .before .before .before .before .leads-to in
     let m = c .before .before .mark in
     let h = subst (Going _ _ _ _ _ _ _ (l .seen) (l .done) (l .at)) (p .ensures .1) (l .inv .0) in
     let lt : p .result .arm < getD (x .count .now) (p .result .block) 0 = omega (arith, c .before .before .before .before .before .before .before .before .if2 .left, e .entry-of .ensures) in
@@ -199,7 +199,7 @@ walk-spec =
     add-at
     loop-less
     loop-again
-    target-requires
+    leads-to-requires
     is-marked-requires
     add-push
     push-requires
