@@ -21,7 +21,7 @@ use Rattle.cold.proofs.SideLaws.{splits-is, warm-side, cold-side, sides
 -- what `partition` answers
 abbrev pub Parted : Graph → Order → Parts → Type 0
 Parted t o p =
-    ((inOrder (p .order) ≡ partition (tabled t) (inOrder o)) × (p .order .len ≡ o .len))
+    ((inOrder (p .order) ≡ partition (tabled t) (inOrder o)) × (p .order .len ≡ o .len) × (length (p .order .block) ≡ blocks))
     × (p .split ≡ cond (splits (tabled t)) (length (warmPart (tabled t) (inOrder o))) blocks)
 
 module _ (t : Graph) (o : Order) (in-graph : (n : ℕ) → In n (inOrder o) → In n (numbersOf (tabled t)))
@@ -42,15 +42,15 @@ module _ (t : Graph) (o : Order) (in-graph : (n : ℕ) → In n (inOrder o) → 
   pub sides-fit : o .len ≤ length (o .block) → length (onSide (t .b .marks) 0 (take (o .len) (o .block))) + length (onSide (t .b .marks) 1 (take (o .len) (o .block))) ≡ o .len
   sides-fit fits = sides-long (t .b .marks) (take (o .len) (o .block)) ∙ length-take-le (o .len) (o .block) fits
 
-  pub parted : o .len ≤ length (o .block) → (before warm both : List ℕ) (s r : ℕ) → splitsBy (t .b .listed) (t .b .marks) (t .blocks) e ≡ true
+  pub parted : o .len ≤ length (o .block) → (before warm both : List ℕ) (s r : ℕ) → splitsBy (t .b .listed) (t .b .marks) (t .blocks) e ≡ true → length before ≡ blocks
       → Gathered (t .b .marks) (take (o .len) (o .block)) 0 0 before warm s → Gathered (t .b .marks) (take (o .len) (o .block)) 1 s warm both r
       → Parted t o (record { order = record { block = both; len = r }; split = s })
   unfolding partition inOrder
-  parted fits before warm both s r h w c = (
-    (c .behind ∙ rw (w .behind, split-is true h, partition, warm-is, cold-is) refl, omega (arith, c .ends, w .ends, sides-fit fits)),
+  parted fits before warm both s r h z w c = (
+    (c .behind ∙ rw (w .behind, split-is true h, partition, warm-is, cold-is) refl, omega (arith, c .ends, w .ends, sides-fit fits), c .sized ∙ w .sized ∙ z),
     w .ends ∙ zero-add (length (onSide (t .b .marks) 0 (take (o .len) (o .block)))) ∙ rw (split-is true h) (ap length (sym warm-is)),
   )
 
-  pub unparted : splitsBy (t .b .listed) (t .b .marks) (t .blocks) e ≡ false → Parted t o (record { order = o; split = blocks })
+  pub unparted : splitsBy (t .b .listed) (t .b .marks) (t .blocks) e ≡ false → length (o .block) ≡ blocks → Parted t o (record { order = o; split = blocks })
   unfolding partition
-  unparted h = ((rw (split-is false h, partition) refl, refl), rw (split-is false h) refl)
+  unparted h z = ((rw (split-is false h, partition) refl, refl, z), rw (split-is false h) refl)

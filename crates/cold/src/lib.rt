@@ -110,15 +110,15 @@ fn gather<'a>(
 pub fn partition(g: Graph, o: Order) -> Parts
     requires { ⌜ Stands numbers mostArms g (tabled g) ⌝ }
     requires { ⌜ (o .len ≤ blocks) × ((n : ℕ) → In n (inOrder o) → In n (numbersOf (tabled g))) ⌝ }
-    ensures { λ r. ⌜ (inOrder (r .order) ≡ partition (tabled g) (inOrder o)) × (r .order .len ≡ o .len) ⌝ }
+    ensures { λ r. ⌜ (inOrder (r .order) ≡ partition (tabled g) (inOrder o)) × (r .order .len ≡ o .len) × (length (r .order .block) ≡ blocks) ⌝ }
     ensures { λ r. ⌜ r .split ≡ cond (splits (tabled g)) (length (warmPart (tabled g) (inOrder o))) blocks ⌝ }
 {
     let b = g.b;
     let n = g.blocks;
+    let block = o.block;
+    let len = o.len;
     let e = entry::find(&b.listed, &b.marks, n);
     if splits(&b.listed, &b.marks, n, e) {
-        let block = o.block;
-        let len = o.len;
         let mut out = [0; BLOCKS];
         let split = gather(&block, &b.marks, len, 0, 0, &mut out);
         let end = gather(&block, &b.marks, len, 1, split, &mut out);
@@ -131,7 +131,7 @@ pub fn partition(g: Graph, o: Order) -> Parts
         };
     }
     Parts {
-        order: o,
+        order: Order { block, len },
         split: BLOCKS,
     }
 }

@@ -1,14 +1,14 @@
 -- One place more in the tables. Assumes nothing.
 use Prim.Native.Nat.{ℕ, zero, suc, _+_, _≤_, _<_}
 use native.Mathlib.Omega.{arith}
-use mathlib.Core.Path.{_≡_, refl, sym, ap, _∙_, subst}
+use mathlib.Core.Path.{_≡_, refl, sym, ap, _∙_}
 use mathlib.Core.Bool.{Bool, true, false, cond}
 use mathlib.Core.List.{List, [], _∷_, _++_}
 use lib.Dec.{eqb, leb}
 use lib.ListN.{length, getD, set, length-set}
 use lib.Seq.{getD-set-same, getD-set-other}
 use Rattle.limits.specs.Limits as most
-use Rattle.lists.proofs.Choices.{split-lt, split-eq}
+use Rattle.lists.proofs.Choices.{split-lt}
 use Rattle.lists.proofs.Tables.{set-get}
 use Rattle.rules.specs.Graph as graph
 use Rattle.rules.specs.Exits.{Place}

@@ -12,7 +12,7 @@ use lib.Seq.{getD-take}
 use borrow.Author.Tests.{le-leb, lt-ltb, le-ltb, eq-eqb, ne-eqb}
 use Rattle.limits.specs.Limits.{blocks}
 use Rattle.rules.specs.declared.Leaving.{Leaving}
-use Rattle.rules.specs.declared.Leaving.the-variants.{Nothing, Jump, Branch, Exchanged, Bridge}
+use Rattle.rules.specs.declared.Leaving.the-variants.{Nothing}
 use Rattle.rules.specs.Lists.{pick}
 use Rattle.rules.specs.Graph.{Arm, names}
 use Rattle.rules.specs.Exits.{indirect, edges}

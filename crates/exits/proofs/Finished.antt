@@ -1,11 +1,11 @@
 -- The tables before the first block is laid, and after the last. Assumes nothing.
-use Prim.Native.Nat.{ℕ, zero, suc, _+_, _≤_, _<_}
+use Prim.Native.Nat.{ℕ, zero, suc, _+_, _<_}
 use native.Mathlib.Omega.{arith}
 use mathlib.Core.Path.{_≡_, refl, sym, ap, _∙_, subst}
 use mathlib.Core.Bool.{Bool}
-use mathlib.Core.List.{List, [], _∷_, _++_, map}
+use mathlib.Core.List.{List, [], _∷_, _++_}
 use lib.Dec.{leb}
-use lib.ListN.{length, getD, replicate, length-append}
+use lib.ListN.{length, getD, replicate}
 use Rattle.limits.specs.Limits as most
 use Rattle.lists.proofs.Tables.{zero-get, within}
 use Rattle.rules.specs.declared.Leaving.{Leaving}
@@ -19,11 +19,10 @@ use Rattle.records.specs.declared.Blocks.{Blocks}
 use Rattle.records.specs.declared.Arms.{Arms}
 use Rattle.records.specs.declared.Graph.{Graph}
 use Rattle.records.specs.declared.Order.{Order}
-use Rattle.records.specs.Tables.{blockAt, leaves, upTo, tabled, onlyBlocks, blockTables, armTables, BlocksSized, ArmsSized, Stands, inOrder}
+use Rattle.records.specs.Tables.{blockAt, leaves, upTo, tabled, onlyBlocks, blockTables, armTables, Stands, inOrder}
 use Rattle.records.proofs.TableLaws.{leaves-count}
 use Rattle.records.proofs.StandLaws.{find-in}
-use Rattle.exits.specs.declared.Laid.{Laid}
-use Rattle.exits.specs.Lays.{leaveAt, newTo, laidAt, laidTo, layAt, placeAt, placesTo, armsTo, Orderly, Placed, at, Laying, Layable, LaidOf}
+use Rattle.exits.specs.Lays.{leaveAt, newTo, laidAt, laidTo, layAt, placeAt, placesTo, armsTo, at, Laying, Layable, LaidOf}
 use Rattle.exits.proofs.LeftArms.{left-length}
 use Rattle.exits.proofs.Turns.{order-length, order-get}
 use Rattle.exits.proofs.Parts.{new-bridges, laid-is}
@@ -130,5 +129,6 @@ module _ (t : Graph) (o : Order) (split : ℕ) (s : Stands most.numbers most.mos
     };
     bridged = omega (arith, l .new-is, new-bridges (at (onlyBlocks [] (t .b .marks) (t .b .ends) (t .b .weight)) (t .a)) (tabled t) (inOrder o) split (o .len), ap bridges all-laid);
     total = omega (arith, l .q-is, l .new-is, total-is (onlyBlocks [] (t .b .marks) (t .b .ends) (t .b .weight)) (t .a) (inOrder o) split (o .len), ap (λ (x : List Place). armTotal (laidGraph x)) all-laid);
+    few-arms = omega (arith, l .q-is, y .orderly .total, ap (armsTo (t .a .count) (inOrder o)) (sym long), l .few, y .few);
     exits-sized = l .placed .exits-sized;
   }

@@ -3,18 +3,16 @@ use Prim.Native.Nat.{ℕ, zero, suc, _+_, _-_, _≤_, _<_}
 use native.Mathlib.Nat.{add-zero, add-suc}
 use native.Mathlib.Omega.{arith}
 use mathlib.Core.Path.{_≡_, refl, sym, ap, _∙_, subst}
-use mathlib.Core.Bool.{Bool, true, false, cond}
-use mathlib.Core.List.{List, [], _∷_, _++_, append-assoc, append-nil}
+use mathlib.Core.Bool.{Bool, true, cond}
+use mathlib.Core.List.{List, [], _∷_, _++_, append-assoc}
 use mathlib.Core.Option.{Option}
-use lib.Dec.{eqb, leb, ltb}
+use lib.Dec.{leb}
 use lib.ListN.{length, getD, set, length-set}
 use lib.Seq.{getD-set-same, getD-set-other}
 use borrow.Author.Tests.{le-leb, lt-leb}
 use Rattle.limits.specs.Limits as most
-use Rattle.lists.proofs.Choices.{split-lt}
 use Rattle.rules.specs.declared.Leaving.{Leaving}
 use Rattle.rules.specs.declared.Leaving.the-variants.{Nothing, Jump, Branch, Exchanged, Bridge}
-use Rattle.rules.specs.Lists.{pick}
 use Rattle.rules.specs.Graph as graph
 use Rattle.rules.specs.Graph.{Arm, withArms}
 use Rattle.rules.specs.Exits.{Place, noArm, edges, exitOf, armsLeft, laidBlock, bridgeFor, bridgeOf, newAfter}

@@ -1,18 +1,16 @@
 -- What is laid block by block is what the rule lays part by part. Assumes nothing.
 use Prim.Native.Nat.{ℕ, zero, suc, _+_, _-_, _≤_, _<_}
-use native.Mathlib.Nat.{add-zero, add-suc}
+use native.Mathlib.Nat.{add-zero}
 use native.Mathlib.Omega.{arith}
-use mathlib.Core.Path.{_≡_, refl, sym, ap, _∙_, subst}
+use mathlib.Core.Path.{_≡_, refl, sym, ap, _∙_}
 use mathlib.Core.Bool.{Bool, true, false, cond}
-use mathlib.Core.Logic.{_⊎_, inl, inr}
-use mathlib.Core.List.{List, [], _∷_, _++_, append-assoc, append-nil, map}
-use mathlib.Core.Option.{Option, none, some}
+use mathlib.Core.List.{List, [], _∷_, _++_, append-assoc, append-nil}
+use mathlib.Core.Option.{none}
 use lib.Dec.{eqb, leb, ltb}
-use lib.ListN.{length, getD, take, drop, length-take, length-drop, length-append, drop-of-length-le}
+use lib.ListN.{length, getD, take, drop, length-take, length-drop}
 use lib.Seq.{drop-cons, take-all}
 use borrow.Author.Tests.{eqb-false, ltb-true, ltb-false, ne-eqb, lt-ltb, le-ltb, le-leb, lt-leb}
 use Rattle.limits.specs.Limits.{numbers, blocks}
-use Rattle.lists.proofs.Choices.{split-lt}
 use Rattle.rules.specs.declared.Leaving.{Leaving}
 use Rattle.rules.specs.declared.Leaving.the-variants.{Nothing, Jump, Branch, Exchanged, Bridge}
 use Rattle.rules.specs.Graph as graph

@@ -2,8 +2,8 @@
 use Prim.Native.Nat.{ℕ, suc, _+_, _≤_, _<_}
 use native.Mathlib.Omega.{arith}
 use mathlib.Core.Path.{_≡_, refl, sym, ap, _∙_, subst}
-use mathlib.Core.Bool.{Bool, cond}
-use mathlib.Core.List.{List, []}
+use mathlib.Core.Bool.{cond}
+use mathlib.Core.List.{List}
 use lib.Dec.{leb, ltb, leb·suc-suc}
 use lib.ListN.{length, getD, set, take, length-take}
 use lib.Seq.{getD-take}
@@ -13,7 +13,7 @@ use Rattle.rules.specs.Exits.{edges, exitOf, armsLeft}
 use Rattle.records.specs.declared.Blocks.{Blocks}
 use Rattle.records.specs.declared.Arms.{Arms}
 use Rattle.records.specs.declared.Order.{Order}
-use Rattle.records.specs.Tables.{armAt, armsFrom, leaves, blockAt, onlyBlocks, blockTables, onlyArms, armTables, inOrder, optional}
+use Rattle.records.specs.Tables.{armAt, armsFrom, leaves, blockAt, blockTables, onlyArms, armTables, inOrder, optional}
 use Rattle.records.proofs.TableLaws.{arms-kept, leaves-count}
 use Rattle.exits.specs.Lays.{leavingOf, goesTo, Below, bridgeArm, nextAt, leaveAt, Orderly, at, Laying}
 use Rattle.exits.proofs.Decisions.{leaving-is}

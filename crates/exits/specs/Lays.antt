@@ -167,4 +167,5 @@ pub record LaidOf (g : graph.Graph) (o : List ℕ) (split : ℕ) (r : Laid) : Ty
   pub stands : Stands blocks arms (r .graph) (laidGraph (layAt g o split))
   pub bridged : r .bridges ≡ bridges (layAt g o split)
   pub total : r .graph .arms ≡ armTotal (laidGraph (layAt g o split))
+  pub few-arms : r .graph .arms ≤ arms
   pub exits-sized : length (r .exits) ≡ blocks

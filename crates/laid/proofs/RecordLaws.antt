@@ -1,14 +1,12 @@
 -- The records of the places, one more at a time, and that they are the rule's. Assumes nothing.
-use Prim.Native.Nat.{ℕ, zero, suc, _+_, _-_, _*_, _%_, _≤_, _<_}
+use Prim.Native.Nat.{ℕ, zero, suc, _+_, _-_, _*_, _<_}
 use native.Mathlib.Nat.{add-zero}
 use native.Mathlib.Numerals.{add-one}
 use native.Mathlib.Omega.{arith}
 use mathlib.Core.Path.{_≡_, refl, sym, ap, ap₂, _∙_}
-use mathlib.Core.Bool.{Bool, cond}
 use mathlib.Core.List.{List, [], _∷_, _++_, append-assoc, append-nil}
-use lib.Dec.{eqb, leb}
 use lib.ListN.{length, getD, take, drop, length-append}
-use Rattle.limits.specs.Limits.{size, numbers, marksBelow}
+use Rattle.limits.specs.Limits.{size}
 use Rattle.lists.specs.Behind.{behind}
 use Rattle.lists.proofs.Parts.{fill-more, behind-front}
 use Rattle.marks.specs.Sets.{member}

@@ -17,7 +17,6 @@ use Rattle.lists.proofs.Choices.{split-lt}
 use Rattle.lists.proofs.Tables.{set-get, zero-get, marked-none, marked-room, marked-more}
 use Rattle.rules.specs.declared.Record.{Record}
 use Rattle.rules.specs.declared.Record.the-variants.{Block, Arm, Outside}
-use Rattle.rules.specs.declared.Verdict.{Verdict}
 use Rattle.rules.specs.Graph.{isEntry}
 use Rattle.rules.specs.Records.{recordAt, before}
 use Rattle.rules.specs.Refusals.{placeOf, entryOf, armCount, listed, recordChecks, allChecks, fine, first}

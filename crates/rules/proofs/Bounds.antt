@@ -2,13 +2,12 @@
 -- were. Assumes nothing.
 use Prim.Native.Nat.{ℕ, zero, suc, _+_, _/_, _%_, _≤_, _<_}
 use native.Mathlib.Omega.{arith}
-use mathlib.Core.Path.{_≡_, refl, sym, ap, _∙_, subst}
+use mathlib.Core.Path.{_≡_, refl, sym, ap, subst}
 use mathlib.Core.Bool.{Bool, true, false, not, _&&_, _||_, cond}
 use mathlib.Core.Logic.{_⊎_, inl, inr, ⊎-elim}
 use mathlib.Core.List.{List, [], _∷_, _++_, map, append-nil}
 use mathlib.Core.Option.{Option, none, some}
-use lib.Dec.{eqb}
-use lib.ListN.{length, getD}
+use lib.ListN.{length}
 use borrow.Author.Tests.{eqb-false}
 use Rattle.limits.specs.Limits.{numbers, marksBelow}
 use Rattle.lists.proofs.Choices.{split-eq}
@@ -16,7 +15,7 @@ use Rattle.rules.specs.declared.Record.{Record}
 use Rattle.rules.specs.declared.Record.the-variants.{Block, Arm, Outside}
 use Rattle.rules.specs.declared.Leaving.{Leaving}
 use Rattle.rules.specs.declared.Leaving.the-variants.{Nothing, Jump, Branch, Exchanged, Bridge}
-use Rattle.rules.specs.Lists.{any, mem}
+use Rattle.rules.specs.Lists.{mem}
 use Rattle.rules.specs.Graph as graph
 use Rattle.rules.specs.Graph.{Graph, bit, isCold, isDead, isAddressed, noBlock, blockAt, withArms}
 use Rattle.rules.specs.Records.{recordAt, before, records, listing, blocksOf, graphOf}
@@ -204,7 +203,7 @@ unfolding armTotal
 mapped-total f h [] = omega arith
 mapped-total f h (b ∷ g) = omega (arith, h b, mapped-total f h g)
 
-forward-total : (g : Graph) → armTotal (forward g) ≤ armTotal g
+pub forward-total : (g : Graph) → armTotal (forward g) ≤ armTotal g
 unfolding forward movedAll
 forward-total g =
     omega (

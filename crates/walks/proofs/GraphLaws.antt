@@ -40,7 +40,7 @@ leaves-last a f (suc n) =
     ∙ ap (λ (l : List ℕ). getD (a .to) (f + n) 0 ∷ l) (leaves-last a f n)
 
 module _ (n m : ℕ) (t : Graph) (few : n ≤ blocks) (fit : m ≤ arms) (s : Stands n m t (tabled t)) where
-  stands-arms : Whole (tabled t) → ArmsOf (t .a .first) (t .a .count) (t .a .to) (tabled t)
+  pub stands-arms : Whole (tabled t) → ArmsOf (t .a .first) (t .a .count) (t .a .to) (tabled t)
   unfolding tabled todo targets blockAt leaves
   stands-arms w = record {
     first-sized = s .arms-sized .first;
@@ -52,11 +52,11 @@ module _ (n m : ℕ) (t : Graph) (few : n ≤ blocks) (fit : m ≤ arms) (s : St
     same = λ k i. ap (λ (x : graph.Block). reverse (targets x)) (find-in (t .b) (t .a) (t .blocks) k i) ∙ leaves-last (t .a) (getD (t .a .first) k 0) (getD (t .a .count) k 0);
   }
 
-  stands-numbers : numbersOf (tabled t) ≡ take (t .blocks) (t .b .listed)
+  pub stands-numbers : numbersOf (tabled t) ≡ take (t .blocks) (t .b .listed)
   unfolding tabled
   stands-numbers = numbers-are (t .b) (t .a) (t .blocks) (omega (arith, few, s .few, s .blocks-sized .listed))
 
-  stands-length : length (numbersOf (tabled t)) ≡ t .blocks
+  pub stands-length : length (numbersOf (tabled t)) ≡ t .blocks
   stands-length = ap length stands-numbers ∙ length-take-le (t .blocks) (t .b .listed) (omega (arith, few, s .few, s .blocks-sized .listed))
 
   stands-once : Once (numbersOf (tabled t))

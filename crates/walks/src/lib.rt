@@ -21,7 +21,13 @@ ghost use Rattle.stack.specs.Frames.{stackOf};
 ghost use Rattle.walks.specs.Walking.{lastFirst, Counts, Started, Walks, Begins, Visits, Enters, Reaches, backwards, Roots, VisitsAll};
 
 // Where the last of a block's n arms goes that is not started, when `next` are.
-fn leads_to<'a>(first: &'a [u16; BLOCKS], to: &'a [u16; ARMS], block: u16, n: usize, next: u16) -> u16
+fn leads_to<'a>(
+    first: &'a [u16; BLOCKS],
+    to: &'a [u16; ARMS],
+    block: u16,
+    n: usize,
+    next: u16,
+) -> u16
     requires { ⌜ (length (now first) ≡ blocks) × (length (now to) ≡ arms) × (getD (now first) block 0 + n ≤ arms) × (next < n) ⌝ }
     ensures { λ r. ⌜ r ≡ getD (lastFirst (now (to .entry)) (getD (now (first .entry)) block 0) n) next 0 ⌝ }
 {

@@ -1,24 +1,10 @@
+-- `exits::bridged` meets its contract.
 use mathlib.Core.Path.{sym, ap}
 use Rattle.rules.specs.declared.Leaving.{Leaving}
 use Rattle.exits.specs.Lays.{bridgedAt}
 use borrow.Author.Needs.{needs}
 use Rattle.exits.proofs.bridged.Statement.{statement}
 use Rattle.exits.proofs.bridged.Tie as tie
-
-enum-told : tie.Need-enum-told
-enum-told c = search needs
-
-enum-told-2 : tie.Need-enum-told-2
-enum-told-2 c = search needs
-
-enum-told-3 : tie.Need-enum-told-3
-enum-told-3 c = search needs
-
-enum-told-4 : tie.Need-enum-told-4
-enum-told-4 c = search needs
-
-enum-known-how : tie.Need-enum-known-how
-enum-known-how c = search needs
 
 returns : tie.Need-returns
 unfolding bridgedAt
@@ -44,11 +30,11 @@ pub bridged-spec : {M : Type 1} → statement M
 bridged-spec =
     tie.close
     (tie.spec
-    enum-told
-    enum-told-2
-    enum-told-3
-    enum-told-4
-    enum-known-how
+    (λ c. search needs)
+    (λ c. search needs)
+    (λ c. search needs)
+    (λ c. search needs)
+    (λ c. search needs)
     returns
     returns-2
     returns-3

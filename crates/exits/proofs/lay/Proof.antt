@@ -2,11 +2,9 @@
 use native.Mathlib.Omega.{arith}
 use Rattle.records.specs.Tables.{inOrder}
 use Rattle.exits.proofs.Finished.{laying-start, laid-of}
-use borrow.Author.Needs.{needs}
 use Rattle.exits.proofs.lay.Statement.{statement}
 use Rattle.exits.proofs.lay.Tie as tie
 
--- src/lib.rt:414:9
 lay-blocks-requires : tie.Need-lay-blocks-requires
 lay-blocks-requires c κs =
     let x = c .before .before .before .before .before .before .before .before .before .before .before .before .before .before .before .before .args in
@@ -16,7 +14,6 @@ lay-blocks-requires c κs =
       laying-start (x .g .b) (x .g .a) (inOrder (x .o)) (x .split) (x .g .b .marks) (x .g .b .ends) (x .g .b .weight) (s .blocks-sized .marks) (s .blocks-sized .ends) (s .blocks-sized .weight),
     )
 
--- src/lib.rt:397:1
 returns : tie.Need-returns
 returns c =
     let x = c .before .before .before .before .before .before .before .before .before .before .before .before .before .before .before .before .before .args in

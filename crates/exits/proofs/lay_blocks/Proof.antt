@@ -1,5 +1,5 @@
 -- `exits::lay_blocks` meets its contract: while it runs, the blocks so far are laid as they should be.
-use Prim.Native.Nat.{ℕ, _+_, _-_, _≤_, _<_}
+use Prim.Native.Nat.{ℕ, _+_, _-_}
 use native.Mathlib.Omega.{arith}
 use mathlib.Core.Path.{_≡_, refl, sym, ap, _∙_, subst}
 use mathlib.Core.List.{[]}
@@ -20,35 +20,6 @@ abbrev μ-loop : tie.MeasureT-loop
 μ-loop split listed₀ place₀ marks₀ ends₀ weight₀ first₀ count₀ exits₀ to₀ args₀ heft₀ a o p₀ q₀ k₀ i₀ listed place marks ends weight first count exits to args heft p q k i =
     o .len - i
 
--- src/lib.rt:354:5
-loop-holds : tie.Need-loop-holds Inv-loop μ-loop
-loop-holds c = search needs
-
--- src/lib.rt:355:17
-mul-n : tie.Need-mul-n Inv-loop μ-loop
-mul-n c = search needs
-
--- src/lib.rt:355:17
-element-copy-out-n : tie.Need-element-copy-out-n Inv-loop μ-loop
-element-copy-out-n c = search needs
-
--- src/lib.rt:356:13
-entry-of-requires : tie.Need-entry-of-requires Inv-loop μ-loop
-entry-of-requires c κs = search needs
-
--- src/lib.rt:357:13
-entry-of-requires-2 : tie.Need-entry-of-requires-2 Inv-loop μ-loop
-entry-of-requires-2 c κs = search needs
-
--- src/lib.rt:358:13
-next-of-requires : tie.Need-next-of-requires Inv-loop μ-loop
-next-of-requires c κs = search needs
-
--- src/lib.rt:359:24
-wide-requires : tie.Need-wide-requires Inv-loop μ-loop
-wide-requires c κs = search needs
-
--- src/lib.rt:359:19
 element-copy-out-end : tie.Need-element-copy-out-end Inv-loop μ-loop
 element-copy-out-end c =
     let x = c .before .before .before .before .before .before .before .before .before .before .before .before .before .args in
@@ -59,7 +30,6 @@ element-copy-out-end c =
     let we = c .wide .ensures in
     omega (arith, we, w .n)
 
--- src/lib.rt:360:13
 leaving-requires : tie.Need-leaving-requires Inv-loop μ-loop
 leaving-requires c κs =
     let x = c .before .before .before .before .before .before .before .before .before .before .before .before .before .before .before .before .before .before .args in
@@ -69,15 +39,6 @@ leaving-requires c κs =
     let w = room (onlyBlocks [] (x .marks .now) (x .ends .now) (x .weight .now)) (x .t1) (x .t2) (x .split) (y .0 .1) (y .0 .0) (y .0 .4) (l .inv) t in
     ((y .0 .2 .first, y .0 .2 .count, y .0 .2 .to), y .0 .3 _)
 
--- src/lib.rt:362:20
-add-new : tie.Need-add-new Inv-loop μ-loop
-add-new c = search needs
-
--- src/lib.rt:362:19
-cast-new : tie.Need-cast-new Inv-loop μ-loop
-cast-new c = search needs
-
--- src/lib.rt:363:9
 leave-requires : tie.Need-leave-requires Inv-loop μ-loop
 leave-requires c κs =
     let x = c .before .before .before .before .before .before .before .before .before .before .before .before .before .before .before .before .before .before .before .before .before .before .before .before .before .before .args in
@@ -90,7 +51,6 @@ leave-requires c κs =
     let z = l .inv .placed .arms-sized in
     ((y .0 .2 .to, y .0 .2 .args, y .0 .2 .weight), ((z .to, z .args, z .weight), (omega (arith, fe, ce, y .0 .3 (getD (x .t2 .block) (l .i) 0)), omega (arith, ce, w .arm))))
 
--- src/lib.rt:364:9
 put-place-requires : tie.Need-put-place-requires Inv-loop μ-loop
 put-place-requires c κs =
     let x = c .before .before .before .before .before .before .before .before .before .before .before .before .before .before .before .before .before .before .before .before .before .before .before .before .before .before .before .before .before .before .before .before .args in
@@ -102,7 +62,6 @@ put-place-requires c κs =
     let z = l .inv .placed in
     ((z .blocks-sized .listed, z .blocks-sized .place, z .arms-sized .first, z .arms-sized .count, z .exits-sized), (omega (arith, w .n), omega (arith, w .place), omega (arith, ce, w .arm)))
 
--- src/lib.rt:365:13
 add-p : tie.Need-add-p Inv-loop μ-loop
 add-p c =
     let x = c .before .before .before .before .before .before .before .before .before .before .before .before .before .before .before .before .before .before .before .before .before .before .before .before .before .before .before .before .before .before .before .before .before .args in
@@ -112,7 +71,6 @@ add-p c =
     let w = room (onlyBlocks [] (x .marks .now) (x .ends .now) (x .weight .now)) (x .t1) (x .t2) (x .split) (y .0 .1) (y .0 .0) (y .0 .4) (l .inv) t in
     record { fits = omega (arith, w .place) }
 
--- src/lib.rt:366:13
 add-q : tie.Need-add-q Inv-loop μ-loop
 add-q c =
     let x = c .before .before .before .before .before .before .before .before .before .before .before .before .before .before .before .before .before .before .before .before .before .before .before .before .before .before .before .before .before .before .before .before .before .args in
@@ -123,24 +81,17 @@ add-q c =
     let ce = c .before .before .before .before .before .before .before .before .before .before .before .before .before .before .before .before .before .before .before .before .before .before .before .before .entry-of2 .ensures in
     record { fits = omega (arith, ce, w .arm) }
 
--- src/lib.rt:367:13
 add-i : tie.Need-add-i Inv-loop μ-loop
 add-i c =
     let t = c .before .before .before .before .before .before .before .before .before .before .before .before .before .before .before .before .before .before .before .before .before .before .before .before .before .before .before .before .before .before .before .loop-test .taken in
     let y = c .before .before .before .before .before .before .before .before .before .before .before .before .before .before .before .before .before .before .before .before .before .before .before .before .before .before .before .before .before .before .before .before .before .pre in
     record { fits = omega (arith, t, y .0 .0) }
 
--- src/lib.rt:368:13
-bridge-arm-requires : tie.Need-bridge-arm-requires Inv-loop μ-loop
-bridge-arm-requires c κs = search needs
-
--- src/lib.rt:354:5
 loop-less : tie.Need-loop-less Inv-loop μ-loop
 loop-less c =
     let t = c .before .before .before .before .before .before .before .before .before .before .before .before .before .before .before .before .before .before .before .before .before .before .before .before .before .before .before .before .before .before .before .before .before .loop-test .taken in
     omega (arith, t)
 
--- src/lib.rt:354:5
 loop-again : tie.Need-loop-again Inv-loop μ-loop
 loop-again c =
     let x = c .before .before .before .before .before .before .before .before .before .before .before .before .before .before .before .before .before .before .before .before .before .before .before .before .before .before .before .before .before .before .before .before .before .before .before .args in
@@ -160,7 +111,6 @@ loop-again c =
     let v = c .before .before .before .before .before .before .before .before .before .before .before .before .before .before .before .before .leaving .result in
     plain-step (onlyBlocks [] (x .marks .now) (x .ends .now) (x .weight .now)) (x .t1) (x .t2) (x .split) (y .0 .1) (y .0 .0) (y .0 .4) (l .place) (l .listed) (l .marks) (l .ends) (l .weight) (l .first) (l .count) (l .to) (l .args) (l .heft) (l .exits) (l .p) (l .q) (l .k) (l .i) (l .inv) t _ _ (v .digit) (v .how) fe ce h (ve .1 ∙ ap (λ (m : ℕ). exitOf m (v .how)) (ap (λ (m : ℕ). getD (l .ends) m 0) we ∙ l .inv .ends _ (w .n))) _ _ _ (le .1 .0) (le .1 .1) (le .0 .0) (le .0 .1) (le .0 .2) _ _ _ _ _ (pe .1) (pe .0) (pe .2) (pe .3) (pe .4) (sym be ∙ c .if1 .taken)
 
--- src/lib.rt:372:17
 add-x : tie.Need-add-x Inv-loop μ-loop
 add-x c =
     let x = c .before .before .before .before .before .before .before .before .before .before .before .before .before .before .before .before .before .before .before .before .before .before .before .before .before .before .before .before .before .before .before .before .before .before .before .args in
@@ -179,7 +129,6 @@ add-x c =
     let b = bridge-low (onlyBlocks [] (x .marks .now) (x .ends .now) (x .weight .now)) (x .t1) (x .t2) (x .split) (y .0 .1) (y .0 .0) (y .0 .4) (l .i) _ t h z in
     record { fits = omega (arith, fe, be, b, y .0 .3 (getD (x .t2 .block) (l .i) 0)) }
 
--- src/lib.rt:373:36
 mul-put-arm : tie.Need-mul-put-arm Inv-loop μ-loop
 mul-put-arm c =
     let x = c .before .before .before .before .before .before .before .before .before .before .before .before .before .before .before .before .before .before .before .before .before .before .before .before .before .before .before .before .before .before .before .before .before .before .before .before .before .before .args in
@@ -198,7 +147,6 @@ mul-put-arm c =
     let b = bridge-low (onlyBlocks [] (x .marks .now) (x .ends .now) (x .weight .now)) (x .t1) (x .t2) (x .split) (y .0 .1) (y .0 .0) (y .0 .4) (l .i) _ t h z in
     record { fits = omega (arith, fe, be, b, y .0 .3 (getD (x .t2 .block) (l .i) 0)) }
 
--- src/lib.rt:373:36
 element-copy-out-put-arm : tie.Need-element-copy-out-put-arm Inv-loop μ-loop
 element-copy-out-put-arm c =
     let x = c .before .before .before .before .before .before .before .before .before .before .before .before .before .before .before .before .before .before .before .before .before .before .before .before .before .before .before .before .before .before .before .before .before .before .before .before .before .before .args in
@@ -217,7 +165,6 @@ element-copy-out-put-arm c =
     let b = bridge-low (onlyBlocks [] (x .marks .now) (x .ends .now) (x .weight .now)) (x .t1) (x .t2) (x .split) (y .0 .1) (y .0 .0) (y .0 .4) (l .i) _ t h z in
     omega (arith, fe, be, b, y .0 .3 (getD (x .t2 .block) (l .i) 0))
 
--- src/lib.rt:373:45
 element-copy-out-put-arm-2 : tie.Need-element-copy-out-put-arm-2 Inv-loop μ-loop
 element-copy-out-put-arm-2 c =
     let x = c .before .before .before .before .before .before .before .before .before .before .before .before .before .before .before .before .before .before .before .before .before .before .before .before .before .before .before .before .before .before .before .before .before .before .before .before .before .before .before .args in
@@ -236,7 +183,6 @@ element-copy-out-put-arm-2 c =
     let b = bridge-low (onlyBlocks [] (x .marks .now) (x .ends .now) (x .weight .now)) (x .t1) (x .t2) (x .split) (y .0 .1) (y .0 .0) (y .0 .4) (l .i) _ t h z in
     omega (arith, fe, be, b, y .0 .3 (getD (x .t2 .block) (l .i) 0))
 
--- src/lib.rt:373:56
 mul-put-arm-2 : tie.Need-mul-put-arm-2 Inv-loop μ-loop
 mul-put-arm-2 c =
     let x = c .before .before .before .before .before .before .before .before .before .before .before .before .before .before .before .before .before .before .before .before .before .before .before .before .before .before .before .before .before .before .before .before .before .before .before .before .before .before .before .before .args in
@@ -255,7 +201,6 @@ mul-put-arm-2 c =
     let b = bridge-low (onlyBlocks [] (x .marks .now) (x .ends .now) (x .weight .now)) (x .t1) (x .t2) (x .split) (y .0 .1) (y .0 .0) (y .0 .4) (l .i) _ t h z in
     record { fits = omega (arith, fe, be, b, y .0 .3 (getD (x .t2 .block) (l .i) 0)) }
 
--- src/lib.rt:373:56
 element-copy-out-put-arm-3 : tie.Need-element-copy-out-put-arm-3 Inv-loop μ-loop
 element-copy-out-put-arm-3 c =
     let x = c .before .before .before .before .before .before .before .before .before .before .before .before .before .before .before .before .before .before .before .before .before .before .before .before .before .before .before .before .before .before .before .before .before .before .before .before .before .before .before .before .args in
@@ -274,7 +219,6 @@ element-copy-out-put-arm-3 c =
     let b = bridge-low (onlyBlocks [] (x .marks .now) (x .ends .now) (x .weight .now)) (x .t1) (x .t2) (x .split) (y .0 .1) (y .0 .0) (y .0 .4) (l .i) _ t h z in
     omega (arith, fe, be, b, y .0 .3 (getD (x .t2 .block) (l .i) 0))
 
--- src/lib.rt:373:9
 put-arm-requires : tie.Need-put-arm-requires Inv-loop μ-loop
 put-arm-requires c κs =
     let x = c .before .before .before .before .before .before .before .before .before .before .before .before .before .before .before .before .before .before .before .before .before .before .before .before .before .before .before .before .before .before .before .before .before .before .before .before .before .before .before .before .before .args in
@@ -286,7 +230,6 @@ put-arm-requires c κs =
     let le = c .before .before .before .before .before .before .before .before .before .before .before .before .before .before .leave .ensures in
     (le .0 .0, le .0 .1, le .0 .2, omega (arith, ce, w .arm))
 
--- src/lib.rt:374:9
 put-place-requires-2 : tie.Need-put-place-requires-2 Inv-loop μ-loop
 put-place-requires-2 c κs =
     let x = c .before .before .before .before .before .before .before .before .before .before .before .before .before .before .before .before .before .before .before .before .before .before .before .before .before .before .before .before .before .before .before .before .before .before .before .before .before .before .before .before .before .before .before .before .before .before .before .args in
@@ -301,7 +244,6 @@ put-place-requires-2 c κs =
       (omega (arith, w .new), omega (arith, w .place), omega (arith, ce, w .arm)),
     )
 
--- src/lib.rt:375:57
 mul-put-bridge : tie.Need-mul-put-bridge Inv-loop μ-loop
 mul-put-bridge c =
     let x = c .before .before .before .before .before .before .before .before .before .before .before .before .before .before .before .before .before .before .before .before .before .before .before .before .before .before .before .before .before .before .before .before .before .before .before .before .before .before .before .before .before .before .before .before .before .before .before .before .before .before .before .args in
@@ -320,7 +262,6 @@ mul-put-bridge c =
     let b = bridge-low (onlyBlocks [] (x .marks .now) (x .ends .now) (x .weight .now)) (x .t1) (x .t2) (x .split) (y .0 .1) (y .0 .0) (y .0 .4) (l .i) _ t h z in
     record { fits = omega (arith, fe, be, b, y .0 .3 (getD (x .t2 .block) (l .i) 0)) }
 
--- src/lib.rt:375:57
 element-copy-out-put-bridge : tie.Need-element-copy-out-put-bridge Inv-loop μ-loop
 element-copy-out-put-bridge c =
     let x = c .before .before .before .before .before .before .before .before .before .before .before .before .before .before .before .before .before .before .before .before .before .before .before .before .before .before .before .before .before .before .before .before .before .before .before .before .before .before .before .before .before .before .before .before .before .before .before .before .before .before .before .args in
@@ -339,7 +280,6 @@ element-copy-out-put-bridge c =
     let b = bridge-low (onlyBlocks [] (x .marks .now) (x .ends .now) (x .weight .now)) (x .t1) (x .t2) (x .split) (y .0 .1) (y .0 .0) (y .0 .4) (l .i) _ t h z in
     omega (arith, fe, be, b, y .0 .3 (getD (x .t2 .block) (l .i) 0))
 
--- src/lib.rt:375:9
 put-bridge-requires : tie.Need-put-bridge-requires Inv-loop μ-loop
 put-bridge-requires c κs =
     let x = c .before .before .before .before .before .before .before .before .before .before .before .before .before .before .before .before .before .before .before .before .before .before .before .before .before .before .before .before .before .before .before .before .before .before .before .before .before .before .before .before .before .before .before .before .before .before .before .before .before .before .before .before .args in
@@ -350,7 +290,6 @@ put-bridge-requires c κs =
     let z = l .inv .placed .blocks-sized in
     (z .marks, z .ends, z .weight, omega (arith, w .new))
 
--- src/lib.rt:376:13
 add-p-2 : tie.Need-add-p-2 Inv-loop μ-loop
 add-p-2 c =
     let x = c .before .before .before .before .before .before .before .before .before .before .before .before .before .before .before .before .before .before .before .before .before .before .before .before .before .before .before .before .before .before .before .before .before .before .before .before .before .before .before .before .before .before .before .before .before .before .before .before .before .before .before .before .before .args in
@@ -360,7 +299,6 @@ add-p-2 c =
     let w = room (onlyBlocks [] (x .marks .now) (x .ends .now) (x .weight .now)) (x .t1) (x .t2) (x .split) (y .0 .1) (y .0 .0) (y .0 .4) (l .inv) t in
     record { fits = omega (arith, w .place) }
 
--- src/lib.rt:377:13
 add-q-2 : tie.Need-add-q-2 Inv-loop μ-loop
 add-q-2 c =
     let x = c .before .before .before .before .before .before .before .before .before .before .before .before .before .before .before .before .before .before .before .before .before .before .before .before .before .before .before .before .before .before .before .before .before .before .before .before .before .before .before .before .before .before .before .before .before .before .before .before .before .before .before .before .before .args in
@@ -371,7 +309,6 @@ add-q-2 c =
     let ce = c .before .before .before .before .before .before .before .before .before .before .before .before .before .before .before .before .before .before .before .before .before .before .before .before .before .before .before .before .before .before .before .before .before .before .before .before .before .before .before .before .before .before .before .before .entry-of2 .ensures in
     record { fits = omega (arith, ce, w .arm) }
 
--- src/lib.rt:378:13
 add-k : tie.Need-add-k Inv-loop μ-loop
 add-k c =
     let x = c .before .before .before .before .before .before .before .before .before .before .before .before .before .before .before .before .before .before .before .before .before .before .before .before .before .before .before .before .before .before .before .before .before .before .before .before .before .before .before .before .before .before .before .before .before .before .before .before .before .before .before .before .before .args in
@@ -381,13 +318,11 @@ add-k c =
     let w = room (onlyBlocks [] (x .marks .now) (x .ends .now) (x .weight .now)) (x .t1) (x .t2) (x .split) (y .0 .1) (y .0 .0) (y .0 .4) (l .inv) t in
     record { fits = omega (arith, w .new) }
 
--- src/lib.rt:354:5
 loop-less-2 : tie.Need-loop-less-2 Inv-loop μ-loop
 loop-less-2 c =
     let t = c .before .before .before .before .before .before .before .before .before .before .before .before .before .before .before .before .before .before .before .before .before .before .before .before .before .before .before .before .before .before .before .before .before .before .before .before .before .before .before .before .before .before .before .before .before .before .before .before .before .before .before .loop-test .taken in
     omega (arith, t)
 
--- src/lib.rt:354:5
 loop-again-2 : tie.Need-loop-again-2 Inv-loop μ-loop
 loop-again-2 c =
     let x = c .before .before .before .before .before .before .before .before .before .before .before .before .before .before .before .before .before .before .before .before .before .before .before .before .before .before .before .before .before .before .before .before .before .before .before .before .before .before .before .before .before .before .before .before .before .before .before .before .before .before .before .before .before .args in
@@ -411,7 +346,6 @@ loop-again-2 c =
     bridge-step (onlyBlocks [] (x .marks .now) (x .ends .now) (x .weight .now)) (x .t1) (x .t2) (x .split) (y .0 .1) (y .0 .0) (y .0 .4) (l .place) (l .listed) (l .marks) (l .ends) (l .weight) (l .first) (l .count) (l .to) (l .args) (l .heft) (l .exits) (l .p) (l .q) (l .k) (l .i) (l .inv) t _ _ (v .digit) (v .how) fe ce h (ve .1 ∙ ap (λ (m : ℕ). exitOf m (v .how)) (ap (λ (m : ℕ). getD (l .ends) m 0) we ∙ l .inv .ends _ (w .n))) _ _ _ (le .1 .0) (le .1 .1) (le .0 .0) (le .0 .1) (le .0 .2) _ _ _ _ _ (pe .1) (pe .0) (pe .2) (pe .3) (pe .4)
     (λ e. c .before .before .before .before .before .before .before .before .before .before .before .before .before .before .before .before .before .before .if1 .left (be ∙ e)) _ _ (ap (λ (m : ℕ). c .before .before .before .before .before .before .before .before .before .before .before .before .before .before .before .before .before .before .before .before .before .before .before .before .before .before .before .before .before .before .before .before .before .before .before .before .before .before .before .before .before .before .before .before .before .before .before .entry-of .result + m) be) refl _ _ _ _ _ _ _ _ _ _ _ (pp .1) (pp .0) (pp .2) (pp .3) (pp .4) (bb .0) (bb .1) (bb .2) (ae .0) (ae .1) (ae .2)
 
--- src/lib.rt:330:1
 returns : tie.Need-returns Inv-loop μ-loop
 returns c =
     let l = c .before .loop in
@@ -426,23 +360,23 @@ lay-blocks-spec =
     (tie.spec
     Inv-loop
     μ-loop
-    loop-holds
-    mul-n
-    element-copy-out-n
-    entry-of-requires
-    entry-of-requires-2
-    next-of-requires
-    wide-requires
+    (λ c. search needs)
+    (λ c. search needs)
+    (λ c. search needs)
+    (λ c κs. search needs)
+    (λ c κs. search needs)
+    (λ c κs. search needs)
+    (λ c κs. search needs)
     element-copy-out-end
     leaving-requires
-    add-new
-    cast-new
+    (λ c. search needs)
+    (λ c. search needs)
     leave-requires
     put-place-requires
     add-p
     add-q
     add-i
-    bridge-arm-requires
+    (λ c κs. search needs)
     loop-less
     loop-again
     add-x

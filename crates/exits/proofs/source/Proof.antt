@@ -1,27 +1,10 @@
+-- `exits::source` meets its contract.
 use mathlib.Core.Path.{sym, ap, _∙_}
 use Rattle.rules.specs.declared.Leaving.{Leaving}
 use Rattle.exits.specs.Lays.{sourceOf}
 use borrow.Author.Needs.{needs}
 use Rattle.exits.proofs.source.Statement.{statement}
 use Rattle.exits.proofs.source.Tie as tie
-
-enum-told : tie.Need-enum-told
-enum-told c = search needs
-
-enum-told-2 : tie.Need-enum-told-2
-enum-told-2 c = search needs
-
-enum-told-3 : tie.Need-enum-told-3
-enum-told-3 c = search needs
-
-enum-told-4 : tie.Need-enum-told-4
-enum-told-4 c = search needs
-
-swapped-requires : tie.Need-swapped-requires
-swapped-requires c κs = search needs
-
-enum-told-5 : tie.Need-enum-told-5
-enum-told-5 c = search needs
 
 returns : tie.Need-returns
 unfolding sourceOf
@@ -46,12 +29,12 @@ pub source-spec : {M : Type 1} → statement M
 source-spec =
     tie.close
     (tie.spec
-    enum-told
-    enum-told-2
-    enum-told-3
-    enum-told-4
-    swapped-requires
-    enum-told-5
+    (λ c. search needs)
+    (λ c. search needs)
+    (λ c. search needs)
+    (λ c. search needs)
+    (λ c κs. search needs)
+    (λ c. search needs)
     returns
     returns-2
     returns-3

@@ -1,6 +1,6 @@
+-- `exits::swapped` meets its contract.
 use borrow.Author.Tests.{lt-ltb, le-ltb, eq-eqb, ne-eqb}
 use Rattle.exits.specs.Lays.{sourceOf}
-use borrow.Author.Needs.{needs}
 use Rattle.exits.proofs.swapped.Statement.{statement}
 use Rattle.exits.proofs.swapped.Tie as tie
 

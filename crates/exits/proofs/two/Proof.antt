@@ -1,54 +1,40 @@
-use borrow.Author.Tests.{lt-ltb, le-ltb, eq-eqb, ne-eqb}
+-- `exits::two` meets its contract.
+use borrow.Author.Tests.{eq-eqb, ne-eqb}
 use borrow.Author.Needs.{needs}
 use Rattle.rules.specs.Lists.{pick}
 use Rattle.exits.specs.Lays.{leavingOf}
 use mathlib.Core.Path.{sym, _∙_}
 use Rattle.exits.proofs.two.Statement.{statement}
 use Rattle.exits.proofs.two.Tie as tie
-use Rattle.exits.proofs.two.Reads as reads
-use Rattle.exits.proofs.two.Lts as lts
-use Rattle.exits.proofs.leaves_indirectly.Reads as leaves-indirectly-reads
 
--- src/lib.rt:41:8
-leaves-indirectly-requires : tie.Need-leaves-indirectly-requires
-leaves-indirectly-requires c κs = search needs
-
--- src/lib.rt:42:9
 returns : tie.Need-returns
 unfolding leavingOf pick
 returns c = rw (sym (c .before .leaves-indirectly .ensures) ∙ c .if1 .taken)
 
--- src/lib.rt:46:13
 returns-2 : tie.Need-returns-2
 unfolding leavingOf pick
 returns-2 c = rw (sym (c .before .before .before .leaves-indirectly .ensures) ∙ c .before .before .if1 .left, eq-eqb _ _ (c .before .if2 .taken), (c .if3 .taken))
 
--- src/lib.rt:48:9
 returns-3 : tie.Need-returns-3
 unfolding leavingOf pick
 returns-3 c = rw (sym (c .before .before .before .leaves-indirectly .ensures) ∙ c .before .before .if1 .left, eq-eqb _ _ (c .before .if2 .taken), (c .if3 .left))
 
--- src/lib.rt:52:13
 returns-4 : tie.Need-returns-4
 unfolding leavingOf pick
 returns-4 c = rw (sym (c .before .before .before .before .leaves-indirectly .ensures) ∙ c .before .before .before .if1 .left, ne-eqb _ _ (c .before .before .if2 .left), eq-eqb _ _ (c .before .if4 .taken), (c .if5 .taken))
 
--- src/lib.rt:54:9
 returns-5 : tie.Need-returns-5
 unfolding leavingOf pick
 returns-5 c = rw (sym (c .before .before .before .before .leaves-indirectly .ensures) ∙ c .before .before .before .if1 .left, ne-eqb _ _ (c .before .before .if2 .left), eq-eqb _ _ (c .before .if4 .taken), (c .if5 .left))
 
--- src/lib.rt:57:9
 returns-6 : tie.Need-returns-6
 unfolding leavingOf pick
 returns-6 c = rw (sym (c .before .before .before .before .leaves-indirectly .ensures) ∙ c .before .before .before .if1 .left, ne-eqb _ _ (c .before .before .if2 .left), ne-eqb _ _ (c .before .if4 .left), (c .if6 .taken))
 
--- src/lib.rt:60:9
 returns-7 : tie.Need-returns-7
 unfolding leavingOf pick
 returns-7 c = rw (sym (c .before .before .before .before .before .leaves-indirectly .ensures) ∙ c .before .before .before .before .if1 .left, ne-eqb _ _ (c .before .before .before .if2 .left), ne-eqb _ _ (c .before .before .if4 .left), (c .before .if6 .left), (c .if7 .taken))
 
--- src/lib.rt:38:1
 returns-8 : tie.Need-returns-8
 unfolding leavingOf pick
 returns-8 c = rw (sym (c .before .before .before .before .before .leaves-indirectly .ensures) ∙ c .before .before .before .before .if1 .left, ne-eqb _ _ (c .before .before .before .if2 .left), ne-eqb _ _ (c .before .before .if4 .left), (c .before .if6 .left), (c .if7 .left))
@@ -57,7 +43,7 @@ pub two-spec : {M : Type 1} → statement M
 two-spec =
     tie.close
     (tie.spec
-    leaves-indirectly-requires
+    (λ c κs. search needs)
     returns
     returns-2
     returns-3

@@ -1,6 +1,5 @@
 -- `laid::begins_cold` meets its contract.
 use borrow.Author.Tests.{eq-eqb, ne-eqb}
-use borrow.Author.Needs.{needs}
 use Rattle.laid.proofs.begins_cold.Statement.{statement}
 use Rattle.laid.proofs.begins_cold.Tie as tie
 

@@ -4,9 +4,6 @@ use borrow.Author.Needs.{needs}
 use Rattle.laid.proofs.head_marks.Statement.{statement}
 use Rattle.laid.proofs.head_marks.Tie as tie
 
-add-result : tie.Need-add-result
-add-result c = search needs
-
 returns : tie.Need-returns
 returns c = rw (c .if1 .taken)
 
@@ -14,4 +11,4 @@ returns-2 : tie.Need-returns-2
 returns-2 c = rw (c .if1 .left) (omega arith)
 
 pub head-marks-spec : {M : Type 1} → statement M
-head-marks-spec = tie.close (tie.spec add-result returns returns-2)
+head-marks-spec = tie.close (tie.spec (λ c. search needs) returns returns-2)

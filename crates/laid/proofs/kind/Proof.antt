@@ -4,9 +4,6 @@ use borrow.Author.Needs.{needs}
 use Rattle.laid.proofs.kind.Statement.{statement}
 use Rattle.laid.proofs.kind.Tie as tie
 
-cast-if1 : tie.Need-cast-if1
-cast-if1 c = search needs
-
 returns : tie.Need-returns
 returns c = rw (le-leb _ _ (c .if1 .taken))
 
@@ -14,4 +11,4 @@ returns-2 : tie.Need-returns-2
 returns-2 c = rw (lt-leb _ _ (c .if1 .left))
 
 pub kind-spec : {M : Type 1} → statement M
-kind-spec = tie.close (tie.spec cast-if1 returns returns-2)
+kind-spec = tie.close (tie.spec (λ c. search needs) returns returns-2)

@@ -24,33 +24,6 @@ loop-holds : tie.Need-loop-holds Inv-loop μ-loop
 unfolding recordsTo
 loop-holds c = (search needs, refl, refl)
 
-mul-k : tie.Need-mul-k Inv-loop μ-loop
-mul-k c = search needs
-
-element-copy-out-k : tie.Need-element-copy-out-k Inv-loop μ-loop
-element-copy-out-k c = search needs
-
-mul-at : tie.Need-mul-at Inv-loop μ-loop
-mul-at c = search needs
-
-add-encode : tie.Need-add-encode Inv-loop μ-loop
-add-encode c = search needs
-
-sub-encode : tie.Need-sub-encode Inv-loop μ-loop
-sub-encode c = search needs
-
-part-encode-start : tie.Need-part-encode-start Inv-loop μ-loop
-part-encode-start c = search needs
-
-part-encode-end : tie.Need-part-encode-end Inv-loop μ-loop
-part-encode-end c = search needs
-
-kind-requires : tie.Need-kind-requires Inv-loop μ-loop
-kind-requires c κs = search needs
-
-cast-encode : tie.Need-cast-encode Inv-loop μ-loop
-cast-encode c = search needs
-
 byte-of-requires : tie.Need-byte-of-requires Inv-loop μ-loop
 byte-of-requires c κs = c .before .before .before .before .before .before .pre .0 .1
 
@@ -66,23 +39,11 @@ head-marks-requires c κs =
 byte-of-requires-2 : tie.Need-byte-of-requires-2 Inv-loop μ-loop
 byte-of-requires-2 c κs = c .before .before .before .before .before .before .before .before .before .pre .0 .2
 
-begins-cold-requires : tie.Need-begins-cold-requires Inv-loop μ-loop
-begins-cold-requires c κs = search needs
-
 byte-of-requires-3 : tie.Need-byte-of-requires-3 Inv-loop μ-loop
 byte-of-requires-3 c κs = c .before .before .before .before .before .before .before .before .before .before .before .pre .0 .4
 
 weight-of-requires : tie.Need-weight-of-requires Inv-loop μ-loop
 weight-of-requires c κs = c .before .before .before .before .before .before .before .before .before .before .before .before .pre .0 .3
-
-encode-requires : tie.Need-encode-requires Inv-loop μ-loop
-encode-requires c κs = search needs
-
-add-i : tie.Need-add-i Inv-loop μ-loop
-add-i c = search needs
-
-loop-less : tie.Need-loop-less Inv-loop μ-loop
-loop-less c = search needs
 
 loop-again : tie.Need-loop-again Inv-loop μ-loop
 unfolding recordOf
@@ -114,25 +75,25 @@ put-places-spec =
     Inv-loop
     μ-loop
     loop-holds
-    mul-k
-    element-copy-out-k
-    mul-at
-    add-encode
-    sub-encode
-    part-encode-start
-    part-encode-end
-    kind-requires
-    cast-encode
+    (λ c. search needs)
+    (λ c. search needs)
+    (λ c. search needs)
+    (λ c. search needs)
+    (λ c. search needs)
+    (λ c. search needs)
+    (λ c. search needs)
+    (λ c κs. search needs)
+    (λ c. search needs)
     byte-of-requires
     is-marked-requires
     head-marks-requires
     byte-of-requires-2
-    begins-cold-requires
+    (λ c κs. search needs)
     byte-of-requires-3
     weight-of-requires
-    encode-requires
-    add-i
-    loop-less
+    (λ c κs. search needs)
+    (λ c. search needs)
+    (λ c. search needs)
     loop-again
     same-length
     returns)

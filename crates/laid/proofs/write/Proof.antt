@@ -30,14 +30,10 @@ put-arms-requires c κs =
     let b = x .l .graph .b in
     let n = x .l .graph .blocks in
     let r = recordsTo (onlyBlocks (b .listed) (b .marks) (b .ends) (b .weight)) (x .l .exits) (x .t2) (x .split) n in
-    let e = fill-length r (x .out .now) _ (size * n) (records-length (onlyBlocks (b .listed) (b .marks) (b .ends) (b .weight)) (x .l .exits) (x .t2) (x .split) n) (omega (arith, w .fits)) (c .before .before .before .before .before .before .before .before .before .before .before .put-places .ensures) in
-    (
+    let e = fill-length r (x .out .now) _ (size * n) (records-length (onlyBlocks (b .listed) (b .marks) (b .ends) (b .weight)) (x .l .exits) (x .t2) (x .split) n) (omega (arith, w .fits)) (c .before .before .before .before .before .before .before .before .before .before .before .put-places .ensures) in (
       (s .few, s .arms-sized .first, s .arms-sized .count),
       (s .fits, omega (arith, w .fits, w .total, e, ap length (only-listed b (x .l .graph .a) n), arms-size b (x .l .graph .a) (x .l .exits) (x .t2) (x .split) n (h .are))),
     )
-
-same-length : tie.Need-same-length
-same-length c = search needs
 
 returns : tie.Need-returns
 unfolding tabled
@@ -47,4 +43,4 @@ returns c =
     c .before .before .put-arms .ensures ∙ both-parts (x .l .graph .b) (x .l .graph .a) (x .l .exits) (x .t2) (x .split) (x .l .graph .blocks) (h .are) (x .out .now) _ (c .before .before .before .before .before .before .before .before .before .before .before .before .before .before .put-places .ensures)
 
 pub write-spec : {M : Type 1} → statement M
-write-spec = tie.close (tie.spec put-places-requires put-arms-requires same-length returns)
+write-spec = tie.close (tie.spec put-places-requires put-arms-requires (λ c. search needs) returns)

@@ -5,7 +5,6 @@ use native.Mathlib.Omega.{arith}
 use mathlib.Core.Path.{_≡_, refl, sym, ap, _∙_, subst}
 use mathlib.Core.List.{[]}
 use mathlib.Core.Option.{none}
-use Rattle.limits.specs.Limits.{blocks}
 use Rattle.rules.specs.Graph.{entry, isEntry}
 use Rattle.records.specs.Tables.{onlyBlocks, noArms, upTo, optional}
 use Rattle.records.proofs.StandLaws.{entry-none, entry-some, entry-stays, optional-none, optional-some, entry-small}

@@ -1,0 +1,4 @@
+pub mod InwardLaws
+pub mod GatherLaws
+pub mod PieceLaws
+pub mod StandingLaws

@@ -1,0 +1,3 @@
+pub mod Inward
+pub mod Gathering
+pub mod Pieces
