@@ -6,6 +6,7 @@
 #ifndef LAYOUT_H
 #define LAYOUT_H
 
+#include <stdbool.h>
 #include <stddef.h>
 #include <stdint.h>
 
@@ -50,6 +51,29 @@ typedef struct Answer {
  * Neither pointer may be null, also where its length is 0, and the two must not overlap.
  */
 Answer layout_write_back(const uint8_t *input, size_t input_len, uint8_t *out, size_t out_len);
+
+/* Reads a file of records, lays its blocks in the plain order (depth-first, nothing reordered by
+ * weight) and writes the laid records.
+ *
+ * input, input_len  the file; any bytes of any length are answered
+ * forward           whether arms into blocks that only lead on are first moved to where those lead
+ * out, out_len      the lent output: on success the laid records are written to its first bytes
+ *                   and the rest is kept, and on a refusal no byte changes; no result is longer
+ *                   than 12,288 bytes
+ *
+ * Laid records are a file's, the blocks and bridges in laid order and then the arms of each in
+ * that order. What is new in a block's record:
+ *
+ *   byte 0  3 for a bridge, which has a number from 128 up and end 0
+ *   byte 2  mark bit 7 for the head of a loop
+ *   byte 4  1 on the cold part's first block, else 0
+ *   byte 5  the exit: 0 nothing, 1 a jump to arm 0, 2 a branch taken on true, 3 one with its arms
+ *           exchanged
+ *
+ * Neither pointer may be null, also where its length is 0, and the two must not overlap.
+ */
+Answer layout_plain(const uint8_t *input, size_t input_len, bool forward, uint8_t *out,
+                    size_t out_len);
 
 #ifdef __cplusplus
 }

@@ -1,17 +1,26 @@
 /* Makes the call that each request on standard input asks for and answers on standard output.
  *
- * A request is the input's length, the lent length, the input, and the lent bytes with GUARD
- * bytes before and behind them. A reply is the answer and then the lent bytes with their guards.
+ * A request is the call's number, the input's length, the lent length, the input, and the lent
+ * bytes with GUARD bytes before and behind them. A reply is the answer and then the lent bytes
+ * with their guards.
  */
 #include "layout.h"
-
-#include <stdbool.h>
 
 /* Not from a header: a machine that emulates x86-64 has its C library but not its headers. */
 long read(int file, void *to, size_t len);
 long write(int file, const void *from, size_t len);
 
 enum { GUARD = 32, MOST = 1 << 17 };
+
+/* The calls by number. */
+enum { WRITE_BACK, PLAIN, PLAIN_FORWARDED, CALLS };
+
+/* What a request begins with. */
+typedef struct Head {
+    uint64_t call;
+    uint64_t input_len;
+    uint64_t lent_len;
+} Head;
 
 static uint8_t input[MOST];
 static uint8_t lent[MOST + 2 * GUARD];
@@ -38,16 +47,24 @@ static bool give(const void *from, size_t len)
     return true;
 }
 
+static Answer made(Head head)
+{
+    size_t input_len = (size_t)head.input_len, lent_len = (size_t)head.lent_len;
+    if (head.call == WRITE_BACK)
+        return layout_write_back(input, input_len, lent + GUARD, lent_len);
+    return layout_plain(input, input_len, head.call == PLAIN_FORWARDED, lent + GUARD, lent_len);
+}
+
 int main(void)
 {
-    uint64_t lengths[2];
-    while (take(lengths, sizeof lengths)) {
-        size_t guarded = (size_t)lengths[1] + 2 * GUARD;
-        if (lengths[0] > MOST || lengths[1] > MOST)
+    Head head;
+    while (take(&head, sizeof head)) {
+        if (head.call >= CALLS || head.input_len > MOST || head.lent_len > MOST)
             return 1;
-        if (!take(input, (size_t)lengths[0]) || !take(lent, guarded))
+        size_t guarded = (size_t)head.lent_len + 2 * GUARD;
+        if (!take(input, (size_t)head.input_len) || !take(lent, guarded))
             return 2;
-        Answer answer = layout_write_back(input, (size_t)lengths[0], lent + GUARD, (size_t)lengths[1]);
+        Answer answer = made(head);
         if (!give(&answer, sizeof answer) || !give(lent, guarded))
             return 3;
     }

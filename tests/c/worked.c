@@ -1,10 +1,9 @@
-/* The worked example of document 01 from C: written back whole, and refused when damaged.
+/* The worked example of document 01 from C: written back whole, laid in the plain order, and
+ * refused when damaged.
  *
  * It ends with 0, or with the number of the first check that failed.
  */
 #include "layout.h"
-
-#include <stdbool.h>
 
 enum { FILE_LEN = 128, LENT = 200, PATTERN = 0x5a };
 
@@ -21,6 +20,20 @@ static const uint8_t worked[FILE_LEN] = {
     2, 2, 1, 0, 0, 0, 0, 0, WEIGHT(0x90, 0x5f, 0x01), /* 2 to 1, 90000 */
 };
 
+/* The same laid in the plain order, as the Rust text lays it with reordering off. */
+static const uint8_t plain[FILE_LEN] = {
+    1, 0, 1, 1, 0, 0, 0, 0,   WEIGHT(0x10, 0x27, 0x00), /* block 0, falls into the next */
+    1, 1, 128, 2, 0, 3, 0, 0, WEIGHT(0xa0, 0x86, 0x01), /* block 1, a head, exchanged */
+    1, 2, 0, 1, 0, 1, 0, 0,   WEIGHT(0x90, 0x5f, 0x01), /* block 2, a jump */
+    1, 3, 0, 1, 0, 0, 0, 0,   WEIGHT(0x10, 0x27, 0x00), /* block 3, goes nowhere */
+    2, 0, 1, 0, 0, 0, 0, 0,   WEIGHT(0x10, 0x27, 0x00), /* 0 to 1 */
+    2, 1, 3, 0, 0, 0, 0, 0,   WEIGHT(0x10, 0x27, 0x00), /* 1 to 3 */
+    2, 1, 2, 0, 0, 0, 0, 0,   WEIGHT(0x90, 0x5f, 0x01), /* 1 to 2 */
+    2, 2, 1, 0, 0, 0, 0, 0,   WEIGHT(0x90, 0x5f, 0x01), /* 2 to 1 */
+};
+
+/* The worked example with its last arm to a number that is not listed. */
+static uint8_t damaged[FILE_LEN];
 static uint8_t lent[LENT];
 
 static void fill(void)
@@ -37,12 +50,13 @@ static bool kept_from(size_t at)
     return true;
 }
 
-static bool is_worked(void)
+/* Whether those bytes were written, and not one behind them. */
+static bool written(const uint8_t *file)
 {
     for (size_t at = 0; at < FILE_LEN; at++)
-        if (lent[at] != worked[at])
+        if (lent[at] != file[at])
             return false;
-    return true;
+    return kept_from(FILE_LEN);
 }
 
 static bool same(Answer a, Answer b)
@@ -52,30 +66,65 @@ static bool same(Answer a, Answer b)
            a.moved == b.moved && a.split == b.split;
 }
 
-int main(void)
+static const Answer done = {0, 0, 0, FILE_LEN, 4, 0, 0, 256};
+static const Answer refused = {7, 7, 0, 0, 0, 0, 0, 0};
+static const Answer short_room = {10, 0, FILE_LEN, 0, 0, 0, 0, 0};
+
+static int check_write_back(void)
 {
     fill();
-    Answer done = layout_write_back(worked, FILE_LEN, lent, LENT);
-    if (!same(done, (Answer){0, 0, 0, 128, 4, 0, 0, 256}))
+    if (!same(layout_write_back(worked, FILE_LEN, lent, LENT), done))
         return 1;
-    if (!is_worked())
+    if (!written(worked))
         return 2;
-    if (!kept_from(FILE_LEN))
+    fill();
+    if (!same(layout_write_back(damaged, FILE_LEN, lent, LENT), refused))
         return 3;
+    if (!same(layout_write_back(worked, FILE_LEN, lent, FILE_LEN - 1), short_room))
+        return 4;
+    return kept_from(0) ? 0 : 5;
+}
 
-    uint8_t damaged[FILE_LEN];
+static int check_plain(bool forward)
+{
+    fill();
+    if (!same(layout_plain(worked, FILE_LEN, forward, lent, LENT), done))
+        return 11;
+    if (!written(plain))
+        return 12;
+    fill();
+    if (!same(layout_plain(damaged, FILE_LEN, forward, lent, LENT), refused))
+        return 13;
+    if (!same(layout_plain(worked, FILE_LEN, forward, lent, FILE_LEN - 1), short_room))
+        return 14;
+    return kept_from(0) ? 0 : 15;
+}
+
+/* The document's P5, 0 to 1 to 2 with 1 a way through: one arm moves, if forwarding is asked for. */
+static int check_forward(void)
+{
+    static const uint8_t p5[5 * 16] = {
+        1, 0, 1, 1, 0, 0, 0, 0, WEIGHT(10, 0, 0), 1, 1, 0, 0, 0, 0, 0, 0, WEIGHT(10, 0, 0),
+        1, 2, 0, 1, 0, 0, 0, 0, WEIGHT(10, 0, 0), 2, 0, 1, 0, 0, 0, 0, 0, WEIGHT(10, 0, 0),
+        2, 1, 2, 0, 0, 0, 0, 0, WEIGHT(10, 0, 0),
+    };
+    if (!same(layout_plain(p5, sizeof p5, false, lent, LENT), (Answer){0, 0, 0, 80, 3, 0, 0, 256}))
+        return 21;
+    if (!same(layout_plain(p5, sizeof p5, true, lent, LENT), (Answer){0, 0, 0, 64, 3, 0, 1, 256}))
+        return 22;
+    return 0;
+}
+
+int main(void)
+{
     for (size_t at = 0; at < FILE_LEN; at++)
         damaged[at] = worked[at];
-    damaged[7 * 16 + 2] = 99; /* the last arm now goes to a number that is not listed */
-    fill();
-    Answer refused = layout_write_back(damaged, FILE_LEN, lent, LENT);
-    if (!same(refused, (Answer){7, 7, 0, 0, 0, 0, 0, 0}))
-        return 4;
-    if (!kept_from(0))
-        return 5;
+    damaged[7 * 16 + 2] = 99;
 
-    Answer short_room = layout_write_back(worked, FILE_LEN, lent, FILE_LEN - 1);
-    if (!same(short_room, (Answer){10, 0, 128, 0, 0, 0, 0, 0}))
-        return 6;
-    return kept_from(0) ? 0 : 7;
+    int failed = check_write_back();
+    if (failed == 0)
+        failed = check_plain(false);
+    if (failed == 0)
+        failed = check_plain(true);
+    return failed != 0 ? failed : check_forward();
 }

@@ -9,6 +9,11 @@ use std::process::{Child, ChildStdin, ChildStdout, Stdio};
 const GUARD: usize = 32;
 const UNTOUCHED: u8 = 0xc3;
 
+/// The calls by number, as `caller.c` has them.
+const WRITE_BACK: u64 = 0;
+const PLAIN: u64 = 1;
+const PLAIN_FORWARDED: u64 = 2;
+
 /// One `caller` process, which ends when this is dropped.
 #[derive(Debug)]
 pub struct Caller {
@@ -28,9 +33,20 @@ impl Caller {
         Caller { process, requests, replies }
     }
 
-    /// Calls `layout_write_back`, and sees that nothing outside the lent bytes changed.
+    /// Calls `layout_write_back`.
     pub fn write_back(&mut self, input: &[u8], out: &mut [u8]) -> Answer {
-        let mut request = Vec::with_capacity(16 + input.len() + out.len() + 2 * GUARD);
+        self.call(WRITE_BACK, input, out)
+    }
+
+    /// Calls `layout_plain`.
+    pub fn layout_plain(&mut self, input: &[u8], forward: bool, out: &mut [u8]) -> Answer {
+        self.call(if forward { PLAIN_FORWARDED } else { PLAIN }, input, out)
+    }
+
+    /// Has a call made, and sees that nothing outside the lent bytes changed.
+    fn call(&mut self, number: u64, input: &[u8], out: &mut [u8]) -> Answer {
+        let mut request = Vec::with_capacity(24 + input.len() + out.len() + 2 * GUARD);
+        request.extend(number.to_le_bytes());
         request.extend((input.len() as u64).to_le_bytes());
         request.extend((out.len() as u64).to_le_bytes());
         request.extend(input);

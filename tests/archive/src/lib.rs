@@ -6,6 +6,8 @@
 
 mod caller;
 mod program;
+mod shares;
 
 pub use caller::Caller;
 pub use program::{Program, compiled_by_cc, repository};
+pub use shares::in_shares;

@@ -1,7 +1,7 @@
 //! `layout_write_back` against the reading of document 01: all eight numbers of the answer and
 //! every lent byte, on good and broken files.
 
-use archive::{Caller, Program};
+use archive::{Caller, Program, in_shares};
 use judge::breaker;
 use judge::generate;
 use judge::random::Random;
@@ -59,15 +59,8 @@ fn compare_share(first: u64, shares: usize) -> [usize; 11] {
 
 #[test]
 fn a_file_is_answered_or_written_wrongly() {
-    let shares = std::thread::available_parallelism().map_or(1, |count| count.get().min(4));
-    let met = std::thread::scope(|scope| {
-        let started: Vec<_> = (0..shares as u64)
-            .map(|first| scope.spawn(move || compare_share(first, shares)))
-            .collect();
-        started.into_iter().fold([0; 11], |met, share| {
-            let counted = share.join().unwrap_or_else(|cause| std::panic::resume_unwind(cause));
-            std::array::from_fn(|refusal| met[refusal] + counted[refusal])
-        })
+    let met = in_shares(compare_share).into_iter().fold([0; 11], |met, counted| {
+        std::array::from_fn(|refusal| met[refusal] + counted[refusal])
     });
     println!("answers by refusal: {met:?}");
     assert!(met.iter().all(|&count| count >= LEAST), "answers by refusal: {met:?}");

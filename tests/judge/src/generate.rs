@@ -136,6 +136,16 @@ pub fn full(random: &mut Random) -> Graph {
     graph
 }
 
+/// 128 blocks that each need a bridge, with 384 arms: no graph has a longer layout.
+#[must_use]
+pub fn most_bridges() -> Graph {
+    let numbers = 0..MOST_BLOCKS as u8;
+    let block = |number| Block { number, marks: 0, end: GOTO, weight: u64::from(number) };
+    // An arm to its own block never goes to the next one.
+    let arms = |number| [Arm { from: number, to: number, args: true, weight: 9 }; 3];
+    Graph { blocks: numbers.clone().map(block).collect(), arms: numbers.flat_map(arms).collect() }
+}
+
 /// A path into a ring of blocks with ways out of it, near the weights at which a loop turns.
 fn looped(random: &mut Random) -> Graph {
     let (path, ring, outside) = (1 + random.below(3), 2 + random.below(4), 1 + random.below(3));

@@ -115,11 +115,16 @@ pub fn write_back(input: &[u8], lent: usize) -> (Answer, Vec<u8>) {
 
 /// The whole answer of a call whose result, on an accepted graph, is what `lay` gives.
 pub fn answer(input: &[u8], lent: usize, lay: impl FnOnce(&Graph) -> Laid) -> (Answer, Vec<u8>) {
-    let graph = match read(input) {
-        Ok(graph) => graph,
-        Err(Refused { number, place }) => return (Answer::refused(number, place), Vec::new()),
-    };
-    let Laid { bytes, blocks, bridges, moved, split } = lay(&graph);
+    match read(input) {
+        Ok(graph) => given_room(lay(&graph), lent),
+        Err(Refused { number, place }) => (Answer::refused(number, place), Vec::new()),
+    }
+}
+
+/// The whole answer of a call with this result, by the room that it is lent.
+#[must_use]
+pub fn given_room(result: Laid, lent: usize) -> (Answer, Vec<u8>) {
+    let Laid { bytes, blocks, bridges, moved, split } = result;
     let length = bytes.len() as u64;
     if bytes.len() > lent {
         return (Answer { needed: length, ..Answer::refused(10, 0) }, Vec::new());

@@ -34,11 +34,20 @@ const INSTS: BranchInsts = BranchInsts {
 
 const OPERAND: mir::Operand = mir::Operand { reg: mir::Reg(0), role: Role::Use };
 
-/// A function being built, with what the passes take beside it.
-struct Built {
+/// A function built from a graph, with what the passes take beside it.
+#[derive(Debug)]
+pub struct Built {
     func: mir::Func,
     names: Interner,
+    fused: layout::Fused,
     walks: Vec<mir::Inst>,
+}
+
+/// What the passes answer beside the function that they change.
+#[derive(Debug)]
+pub struct Passed {
+    moved: usize,
+    heads: Vec<mir::Block>,
 }
 
 /// The layout that the text gives an accepted graph.
@@ -49,19 +58,19 @@ struct Built {
 #[must_use]
 pub fn lay(graph: &Graph, choices: Choices) -> Laid {
     let mut built = built(graph);
-    let Built { func, names, walks } = &mut built;
-    let moved = if choices.forward { layout::forward(func, &INSTS, names) } else { 0 };
-    let fused = layout::Fused::new(&INSTS, names);
-    layout::blocks(func, &INSTS, &fused, names, &Set::default(), walks, choices.reorder);
-    let heads = layout::heads(func);
-    laid(graph, &mut built, &heads, moved)
+    let passed = built.pass(choices);
+    laid(graph, &mut built, &passed)
 }
 
-fn built(graph: &Graph) -> Built {
+/// The function of an accepted graph, on which the passes have still to be run.
+#[must_use]
+pub fn built(graph: &Graph) -> Built {
     let order: Vec<mir::Block> = graph.blocks.iter().map(|block| at(block.number)).collect();
     let entry = graph.entry().map(|block| at(block.number));
     let func = mir::Func::listing(MOST_BLOCKS, &order, entry);
-    let mut built = Built { func, names: Interner::default(), walks: Vec::new() };
+    let mut names = Interner::default();
+    let fused = layout::Fused::new(&INSTS, &mut names);
+    let mut built = Built { func, names, fused, walks: Vec::new() };
     for (index, block) in graph.blocks.iter().enumerate() {
         // The address is taken in another block, where there is one.
         let holder = order[(index + 1) % order.len()];
@@ -81,6 +90,14 @@ fn at(number: u8) -> mir::Block {
 }
 
 impl Built {
+    /// Runs the text's passes, once and in their order.
+    pub fn pass(&mut self, choices: Choices) -> Passed {
+        let Built { func, names, fused, walks } = self;
+        let moved = if choices.forward { layout::forward(func, &INSTS, names) } else { 0 };
+        layout::blocks(func, &INSTS, fused, names, &Set::default(), walks, choices.reorder);
+        Passed { moved, heads: layout::heads(func) }
+    }
+
     fn opcode(&mut self, name: &str) -> mir::Opcode {
         mir::Opcode::new(self.names.join(INSTS.prefix, name))
     }
@@ -148,11 +165,11 @@ impl Built {
 }
 
 /// Laid records and counts of a function that has been through the passes.
-fn laid(graph: &Graph, built: &mut Built, heads: &[mir::Block], moved: usize) -> Laid {
+fn laid(graph: &Graph, built: &mut Built, passed: &Passed) -> Laid {
     let order: Vec<mir::Block> = built.func.blocks().collect();
     let mut bytes = Vec::new();
     for &block in &order {
-        bytes.extend(laid_block(graph, built, block, heads.contains(&block)));
+        bytes.extend(laid_block(graph, built, block, passed.heads.contains(&block)));
     }
     for &block in &order {
         for arm in &built.func[block].succs {
@@ -166,7 +183,7 @@ fn laid(graph: &Graph, built: &mut Built, heads: &[mir::Block], moved: usize) ->
         bytes,
         blocks: graph.blocks.len() as u64,
         bridges: (order.len() - graph.blocks.len()) as u64,
-        moved: moved as u64,
+        moved: passed.moved as u64,
         split: split.map_or(NO_SPLIT, |place| place as u64),
     }
 }

@@ -11,28 +11,24 @@ include!(concat!(env!("OUT_DIR"), "/text.rs"));
 mod changes;
 #[cfg(text)]
 mod harness;
+#[cfg(not(text))]
+#[path = "missing.rs"]
+mod harness;
 
-#[cfg(text)]
-pub use harness::lay;
+pub use harness::{Built, Passed, built, lay};
 
 pub mod vectors;
 
 use std::io::Write;
 
-/// A layout by the Rust text, which is missing in this build.
-#[cfg(not(text))]
-pub fn lay(
-    _graph: &judge::records::Graph,
-    _choices: judge::records::Choices,
-) -> judge::records::Laid {
-    panic!("the Rust text is missing: set RUCC_TEXT to the path of its layout.rs")
-}
+/// Whether the text is part of this build.
+pub const TEXT: bool = cfg!(text);
 
 /// Whether the text is at hand. Where it is not, says that the test `name` was not run, and fails
 /// it where CI asks for everything to be run.
 #[must_use]
 pub fn at_hand(name: &str) -> bool {
-    if cfg!(text) {
+    if TEXT {
         return true;
     }
     let asked = std::env::var("CI").is_ok_and(|value| value == "true");
