@@ -20,14 +20,14 @@ use Rattle.rules.proofs.Membership.{In, keep→, map-In, mem→, T→≡, map-a
 use Rattle.rules.proofs.Wholeness.{Whole}
 use Rattle.rules.proofs.SpreadLeast.{Shut, spread-closed, spread-least, spread-none}
 use Rattle.rules.proofs.SpreadMarks.{cold-stays}
-use Rattle.records.specs.declared.Blocks.{Blocks}
 use Rattle.records.specs.declared.Graph.{Graph}
 use Rattle.records.specs.Tables.{blockAt, upTo, tabled, optional, onlyBlocks, noArms, Stands}
 use Rattle.records.proofs.StandLaws.{optional-some, entry-same}
 use Rattle.cold.specs.Sides.{splitsBy}
-use Rattle.cold.specs.Ways.{at, armsTo, ins, coldIns, Linked}
+use Rattle.cold.specs.Ways.{links, at, armsTo, ins, coldIns, Linked}
 use Rattle.cold.specs.Sweeps.{joining, joinsAt, cooled, Cools, Settled}
 use Rattle.cold.specs.Sweeps.Cools.{still, next}
+use Rattle.cold.specs.Lent.{Over, OverMarks, withMarks}
 use Rattle.cold.proofs.SideLaws.{splits-is}
 use Rattle.cold.proofs.SweepLaws.{joins-at, cold-next, cooled-here, cooled-else, cools-sized}
 use Rattle.cold.proofs.LinkLaws.{linksOf, ins-some, ins-pos, cold-all, all-cold, block-at, number-at, place-of, block-is, linked, way-in, in-way}
@@ -83,12 +83,9 @@ chilled-is s x v (inl e) c = go (isCold (x .marks)) refl
 chilled-is s x v (inr q) c = rw (sym c ∙ ap isCold (q .1) ∙ cold-next (x .marks) (q .0), q .0, chilled) (rw (q .1) refl)
 
 -- ---- the tables with other marks
-abbrev pub marked : Blocks → List ℕ → Blocks
-marked b m = record { place = b .place; listed = b .listed; marks = m; ends = b .ends; weight = b .weight }
-
 module _ (t : Graph) (m : List ℕ) (kept : (k : ℕ) → Kept (getD (t .b .marks) k 0) (getD m k 0))
     (set-is : (i : ℕ) → i < t .blocks → isCold (getD m (at (linksOf t) i) 0) ≡ mem (at (linksOf t) i) (coldSet (tabled t))) where
-  marked-up : (p : ℕ) → p ≤ t .blocks → upTo (marked (t .b) m) (t .a) p ≡ map (chilled (coldSet (tabled t))) (upTo (t .b) (t .a) p)
+  marked-up : (p : ℕ) → p ≤ t .blocks → upTo (withMarks t m .b) (t .a) p ≡ map (chilled (coldSet (tabled t))) (upTo (t .b) (t .a) p)
   unfolding upTo blockAt
   marked-up zero l = refl
   marked-up (suc p) l =
@@ -97,7 +94,7 @@ module _ (t : Graph) (m : List ℕ) (kept : (k : ℕ) → Kept (getD (t .b .mark
       ∙ sym (map-append (chilled (coldSet (tabled t))) (upTo (t .b) (t .a) p) (blockAt (t .b) (t .a) (at (linksOf t) p) ∷ []))
 
   pub marked-stands : Stands numbers mostArms t (tabled t) → length m ≡ blocks
-      → Stands numbers mostArms (record { blocks = t .blocks; arms = t .arms; b = marked (t .b) m; a = t .a }) (spread (tabled t))
+      → Stands numbers mostArms (withMarks t m) (spread (tabled t))
   unfolding tabled spread
   marked-stands s z =
       record {
@@ -231,23 +228,38 @@ module _ (t : Graph) where
             (λ c. spread-least (tabled t) spreading (λ (b : ℕ). T (isCold (getD m b 0))) settled-shut (at (linksOf t) i) c)
 
 -- ---- the pass
-module _ (t : Graph) (s : Stands numbers mostArms t (tabled t)) (e : ℕ) (found : optional e ≡ entry (upTo (onlyBlocks (t .b .listed) (t .b .marks) [] []) noArms (t .blocks))) where
-  spreads-by : (y : Bool) → splitsBy (t .b .listed) (t .b .marks) (t .blocks) e ≡ y → spreads (tabled t) ≡ y
-  unfolding tabled
-  spreads-by y h = spreads-are (tabled t) ∙ splits-is (t .b) (t .a) (t .blocks) e found ∙ h
+module _ (t : Graph) (listed marks first count to : List ℕ) (n : ℕ) (k : Over t listed marks first count to n) where
+  -- the tables that `partition` asks for are among them
+  pub over-marks : OverMarks t listed marks n
+  over-marks = record { listed-is = k .listed-is; marks-is = k .marks-is; blocks-is = k .blocks-is }
 
-  entry-by : splitsBy (t .b .listed) (t .b .marks) (t .blocks) e ≡ true → entry (tabled t) ≡ some e
-  unfolding tabled splitsBy
-  entry-by h =
-      entry-same (t .b) (onlyBlocks (t .b .listed) (t .b .marks) [] []) (t .a) noArms refl refl (t .blocks) ∙ sym found
-      ∙ optional-some e (split-bool (ltb e blocks) (λ q. ltb-true e blocks q) (λ q. absurd (let z : false ≡ true = rw q at h in subst T (sym z) tt)))
+  module _ (s : Stands numbers mostArms t (tabled t)) where
+    pub over-linked : Whole (tabled t) → Linked (links listed first count to n)
+    over-linked whole = subst Linked (rw (k .listed-is, k .first-is, k .count-is, k .to-is, k .blocks-is) refl) (linked t s whole)
 
-  pub spread-settled : Whole (tabled t) → splitsBy (t .b .listed) (t .b .marks) (t .blocks) e ≡ true → (m : List ℕ) → Settled (linksOf t) e (t .b .marks) m
-      → Stands numbers mostArms (record { blocks = t .blocks; arms = t .arms; b = marked (t .b) m; a = t .a }) (spread (tabled t))
-  spread-settled whole h m q =
-      let l = linked t s whole in
-      marked-stands t m (cools-kept t l (s .blocks-sized .marks) e (q .turns) m (q .cools))
-      (settled-set t l (s .blocks-sized .marks) e (rw (spreads-by true h) tt) (entry-by h) m q) s (q .sized)
+    module _ (e : ℕ) (found : optional e ≡ entry (upTo (onlyBlocks listed marks [] []) noArms n)) where
+      found-is : optional e ≡ entry (upTo (onlyBlocks (t .b .listed) (t .b .marks) [] []) noArms (t .blocks))
+      found-is = rw (k .listed-is, k .marks-is, k .blocks-is) found
 
-  pub spread-still : splitsBy (t .b .listed) (t .b .marks) (t .blocks) e ≡ false → Stands numbers mostArms t (spread (tabled t))
-  spread-still h = marked-stands t (t .b .marks) (λ k. inl refl) (none-set t (spreads-by false h)) s (s .blocks-sized .marks)
+      spreads-by : (y : Bool) → splitsBy listed marks n e ≡ y → spreads (tabled t) ≡ y
+      unfolding tabled
+      spreads-by y h = spreads-are (tabled t) ∙ splits-is (t .b) (t .a) (t .blocks) e found-is ∙ rw (k .listed-is, k .marks-is, k .blocks-is) h
+
+      entry-by : splitsBy listed marks n e ≡ true → entry (tabled t) ≡ some e
+      unfolding tabled splitsBy
+      entry-by h =
+          entry-same (t .b) (onlyBlocks (t .b .listed) (t .b .marks) [] []) (t .a) noArms refl refl (t .blocks) ∙ sym found-is
+          ∙ optional-some e (split-bool (ltb e blocks) (λ q. ltb-true e blocks q) (λ q. absurd (let z : false ≡ true = rw q at h in subst T (sym z) tt)))
+
+      pub spread-settled : Whole (tabled t) → splitsBy listed marks n e ≡ true → (m : List ℕ) → Settled (links listed first count to n) e marks m
+          → Stands numbers mostArms (withMarks t m) (spread (tabled t))
+      spread-settled whole h m q =
+          let l = linked t s whole in
+          let o : Settled (linksOf t) e (t .b .marks) m = rw (k .listed-is, k .marks-is, k .first-is, k .count-is, k .to-is, k .blocks-is) q in
+          marked-stands t m (cools-kept t l (s .blocks-sized .marks) e (o .turns) m (o .cools))
+          (settled-set t l (s .blocks-sized .marks) e (rw (spreads-by true h) tt) (entry-by h) m o) s (o .sized)
+
+      pub spread-still : splitsBy listed marks n e ≡ false → Stands numbers mostArms (withMarks t marks) (spread (tabled t))
+      spread-still h =
+          rw (← k .marks-is)
+          (marked-stands t (t .b .marks) (λ i. inl refl) (none-set t (spreads-by false h)) s (s .blocks-sized .marks))

@@ -1,3 +1,4 @@
 pub mod Sides
 pub mod Ways
 pub mod Sweeps
+pub mod Lent

@@ -5,23 +5,18 @@ pub mod ways;
 
 use limits::ARMS;
 use limits::BLOCKS;
-use records::Graph;
 use records::Order;
 use records::entry;
 ghost use mathlib.Core.Path.{_≡_};
-ghost use mathlib.Core.Bool.{false, cond};
-ghost use Prim.Native.Nat.{ℕ, _+_, _≤_, _/_, _%_};
+ghost use mathlib.Core.Bool.{false};
+ghost use Prim.Native.Nat.{_+_, _≤_, _/_, _%_};
 ghost use lib.ListN.{length, take};
-ghost use Rattle.limits.specs.Limits.{numbers, mostArms, blocks};
-ghost use Rattle.rules.specs.Graph.{isCold, numbersOf};
-ghost use Rattle.rules.specs.Spread.{spread};
-ghost use Rattle.rules.specs.Split.{splits, warmPart, partition};
-ghost use Rattle.rules.proofs.Membership.{In};
-ghost use Rattle.rules.proofs.Wholeness.{Whole};
-ghost use Rattle.records.specs.Tables.{tabled, Stands, inOrder};
+ghost use Rattle.limits.specs.Limits.{blocks};
+ghost use Rattle.rules.specs.Graph.{isCold};
 ghost use Rattle.cold.specs.Sides.{anyCold, splitsBy, onSide, Gathered};
 ghost use Rattle.cold.specs.Ways.{links, Linked};
 ghost use Rattle.cold.specs.Sweeps.{joining, Chills, Chilled, Sweeps, Swept, Settled};
+ghost use Rattle.cold.specs.Lent.{Spreads, SpreadTo, Divides, PartedBy};
 
 // An order with the cold blocks last, and where they start: BLOCKS where nothing is split.
 pub struct Parts {
@@ -107,21 +102,22 @@ fn gather<'a>(
 }
 
 // "Warm, then cold, each in order", where there is a warm entry and a cold block; else the order as it is.
-pub fn partition(g: Graph, o: Order) -> Parts
-    requires { ⌜ Stands numbers mostArms g (tabled g) ⌝ }
-    requires { ⌜ (o .len ≤ blocks) × ((n : ℕ) → In n (inOrder o) → In n (numbersOf (tabled g))) ⌝ }
-    ensures { λ r. ⌜ (inOrder (r .order) ≡ partition (tabled g) (inOrder o)) × (r .order .len ≡ o .len) × (length (r .order .block) ≡ blocks) ⌝ }
-    ensures { λ r. ⌜ r .split ≡ cond (splits (tabled g)) (length (warmPart (tabled g) (inOrder o))) blocks ⌝ }
+pub fn partition<'a>(
+    listed: &'a [u16; BLOCKS],
+    marks: &'a [u8; BLOCKS],
+    n: usize,
+    o: Order,
+) -> Parts
+    requires { ⌜ Divides (now listed) (now marks) n o ⌝ }
+    ensures { λ r. ⌜ PartedBy (now (listed .entry)) (now (marks .entry)) n o r ⌝ }
 {
-    let b = g.b;
-    let n = g.blocks;
     let block = o.block;
     let len = o.len;
-    let e = entry::find(&b.listed, &b.marks, n);
-    if splits(&b.listed, &b.marks, n, e) {
+    let e = entry::find(listed, marks, n);
+    if splits(listed, marks, n, e) {
         let mut out = [0; BLOCKS];
-        let split = gather(&block, &b.marks, len, 0, 0, &mut out);
-        let end = gather(&block, &b.marks, len, 1, split, &mut out);
+        let split = gather(&block, marks, len, 0, 0, &mut out);
+        let end = gather(&block, marks, len, 1, split, &mut out);
         return Parts {
             order: Order {
                 block: out,
@@ -249,25 +245,20 @@ fn cool<'a>(
 }
 
 // "What only cold blocks lead to is cold": with a warm entry and some cold block, a block that is not the entry gets
-// mark 1 where all its arms in, at least one, come from cold blocks.
-pub fn spread(g: Graph) -> Graph
-    requires { ⌜ Stands numbers mostArms g (tabled g) × Whole (tabled g) ⌝ }
-    ensures { λ r. ⌜ Stands numbers mostArms r (spread (tabled g)) ⌝ }
+// mark 1 where all its arms in, at least one, come from cold blocks. Else the marks stay as they are.
+pub fn spread<'a>(
+    listed: &'a [u16; BLOCKS],
+    first: &'a [u16; BLOCKS],
+    count: &'a [u16; BLOCKS],
+    to: &'a [u16; ARMS],
+    n: usize,
+    marks: &mut [u8; BLOCKS],
+)
+    requires { ⌜ Spreads (now listed) (now marks) (now first) (now count) (now to) n ⌝ }
+    ensures { λ _. ⌜ SpreadTo (now (listed .entry)) (now (marks .entry)) (now (first .entry)) (now (count .entry)) (now (to .entry)) n (now (marks .exit)) ⌝ }
 {
-    let n = g.blocks;
-    let mut b = g.b;
-    let a = g.a;
-    let e = entry::find(&b.listed, &b.marks, n);
-    if splits(&b.listed, &b.marks, n, e) {
-        let mut marks = b.marks;
-        cool(&b.listed, &a.first, &a.count, &a.to, n, e, &mut marks);
-        b.marks = marks;
-        return Graph {
-            blocks: n,
-            arms: g.arms,
-            b,
-            a,
-        };
+    let e = entry::find(listed, marks, n);
+    if splits(listed, marks, n, e) {
+        cool(listed, first, count, to, n, e, marks);
     }
-    g
 }

@@ -23,10 +23,12 @@ use Rattle.records.specs.Tables.{blockAt, upTo, tabled, Stands, inOrder}
 use Rattle.records.proofs.TableLaws.{leaves-count}
 use Rattle.records.proofs.StandLaws.{listed-in, in-listed, once-listed}
 use Rattle.walks.specs.Walking.{lastFirst, ArmsOf}
+use Rattle.walks.specs.Lent.{FinishedAll}
 use Rattle.walks.proofs.GraphLaws.{stands-arms}
+use Rattle.walks.proofs.LentLaws.{lent-has, has-lent}
 use Rattle.cycles.specs.Inward.{ins, armsTo, Linkable}
 use Rattle.cycles.specs.Gathering.{Sorted}
-use Rattle.cycles.specs.Pieces.{PiecesOf}
+use Rattle.cycles.specs.Pieces.{PiecesOf, LentWithin, PiecesOver}
 use Rattle.cycles.proofs.InwardLaws.{Arm, ins-from, from-ins}
 use Rattle.cycles.proofs.PieceLaws.{Inwards, finished-listed, sorted-exact}
 
@@ -127,3 +129,26 @@ module _ (t : Graph) (s : Stands blocks arms t (tabled t)) (w : Whole (tabled t)
       exact = sorted-exact (tabled t) (ins (t .b .listed) (t .a .first) (t .a .count) (t .a .to) (t .blocks)) stands-ways w (once-listed (t .b) (t .a) (t .blocks) (s .back)) (o .block) p
           (λ i k. order-same i (omega (arith, k, order-length))) (subst (λ (n : ℕ). Sorted (ins (t .b .listed) (t .a .first) (t .a .count) (t .a .to) (t .blocks)) (o .block) n p) (sym order-length) h);
     }
+
+-- ---- tables that are lent one by one
+pub lent-linkable : {listed first count to : List ℕ} {n : ℕ} → LentWithin listed first count to n → Linkable listed first count to n
+lent-linkable l =
+    let t = l .lent in
+    lent-has (t .over) Linkable (stands-linkable (t .t) (t .stands) (t .whole) (l .few-arms))
+
+module _ (listed first count to : List ℕ) (n : ℕ) (o : Order) (long : length (o .block) ≡ blocks) (all : FinishedAll listed first count to n o) where
+  pub lent-low : LentWithin listed first count to n → (i : ℕ) → i < o .len → getD (o .block) i 0 < blocks
+  lent-low l =
+      let t = l .lent in
+      let e = all (t .t) (t .over) (t .stands) (t .whole) in
+      order-low (t .t) (t .stands) (t .whole) o long (e .0) (e .1)
+
+  pub lent-short : LentWithin listed first count to n → o .len ≤ blocks
+  lent-short l =
+      let t = l .lent in
+      omega (arith, all (t .t) (t .over) (t .stands) (t .whole) .1, t .stands .few)
+
+  pub pieces-over : (p : List ℕ) → length p ≡ blocks → Sorted (ins listed first count to n) (o .block) (o .len) p → PiecesOver listed first count to n p
+  pieces-over p sized h t over s w =
+      let e = all t over s w in
+      pieces-of t s w o long (e .0) (e .1) p sized (has-lent over (λ b f c d k. Sorted (ins b f c d k) (o .block) (o .len) p) h)

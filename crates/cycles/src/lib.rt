@@ -4,7 +4,6 @@
 // the second against them, from the last that was finished on, and what it reaches from one block is one piece.
 use limits::ARMS;
 use limits::BLOCKS;
-use records::Graph;
 use stack::Stack;
 ghost use mathlib.Core.Path.{_≡_};
 ghost use mathlib.Core.List.{List};
@@ -12,13 +11,10 @@ ghost use Prim.Native.Nat.{ℕ, suc, _+_, _≤_, _<_};
 ghost use lib.ListN.{length, getD};
 ghost use Rattle.limits.specs.Limits.{blocks, arms};
 ghost use Rattle.lists.specs.Marked.{marked};
-ghost use Rattle.rules.specs.Within.{armTotal};
-ghost use Rattle.rules.proofs.Wholeness.{Whole};
-ghost use Rattle.records.specs.Tables.{tabled, Stands};
 ghost use Rattle.stack.specs.Frames.{stackOf};
 ghost use Rattle.cycles.specs.Inward.{Linked, Sized, Lists, added, entered, ins, Linkable};
 ghost use Rattle.cycles.specs.Gathering.{blocksOn, Listing, Gathered, Collected, Inward, Sorted};
-ghost use Rattle.cycles.specs.Pieces.{PiecesOf};
+ghost use Rattle.cycles.specs.Pieces.{LentWithin, PiecesOver};
 
 // One more arm in, number k, from block m to block t.
 fn link(
@@ -173,27 +169,21 @@ fn sort<'a>(
 }
 
 // By block number the piece that it is in, 0 for a number that is not listed.
-pub fn cycles(g: Graph) -> [u16; BLOCKS]
-    requires { ⌜ Stands blocks arms g (tabled g) × Whole (tabled g) × (armTotal (tabled g) ≤ arms) ⌝ }
-    ensures { λ r. ⌜ PiecesOf (tabled g) r ⌝ }
+pub fn cycles<'a>(
+    listed: &'a [u16; BLOCKS],
+    first: &'a [u16; BLOCKS],
+    count: &'a [u16; BLOCKS],
+    to: &'a [u16; ARMS],
+    n: usize,
+) -> [u16; BLOCKS]
+    requires { ⌜ LentWithin (now listed) (now first) (now count) (now to) n ⌝ }
+    ensures { λ r. ⌜ PiecesOver (now (listed .entry)) (now (first .entry)) (now (count .entry)) (now (to .entry)) n r ⌝ }
 {
-    let o = walks::finished(g);
-    let b = g.b;
-    let a = g.a;
-    let n = g.blocks;
+    let o = walks::finished(listed, first, count, to, n);
     let mut head: [u16; BLOCKS] = [0; BLOCKS];
     let mut next: [u16; ARMS] = [0; ARMS];
     let mut from: [u16; ARMS] = [0; ARMS];
-    link_all(
-        &b.listed,
-        &a.first,
-        &a.count,
-        &a.to,
-        n,
-        &mut head,
-        &mut next,
-        &mut from,
-    );
+    link_all(listed, first, count, to, n, &mut head, &mut next, &mut from);
     let mut piece: [u16; BLOCKS] = [0; BLOCKS];
     let block = o.block;
     let len = o.len;

@@ -19,10 +19,10 @@ use Rattle.records.specs.declared.Blocks.{Blocks}
 use Rattle.records.specs.declared.Arms.{Arms}
 use Rattle.records.specs.declared.Graph.{Graph}
 use Rattle.records.specs.declared.Order.{Order}
-use Rattle.records.specs.Tables.{blockAt, leaves, upTo, tabled, onlyBlocks, blockTables, armTables, Stands, inOrder}
+use Rattle.records.specs.Tables.{ArmsSized, ArmsWithin, blockAt, leaves, upTo, tabled, onlyBlocks, blockTables, armTables, inOrder}
 use Rattle.records.proofs.TableLaws.{leaves-count}
 use Rattle.records.proofs.StandLaws.{find-in}
-use Rattle.exits.specs.Lays.{leaveAt, newTo, laidAt, laidTo, layAt, placeAt, placesTo, armsTo, at, Laying, Layable, LaidOf}
+use Rattle.exits.specs.Lays.{Orderly, leaveAt, newTo, laidAt, laidTo, layAt, placeAt, placesTo, armsTo, at, Laying, Fits, Layable, LaidOf, Lays}
 use Rattle.exits.proofs.LeftArms.{left-length}
 use Rattle.exits.proofs.Turns.{order-length, order-get}
 use Rattle.exits.proofs.Parts.{new-bridges, laid-is}
@@ -94,7 +94,7 @@ module _ (b₀ : Blocks) (a₀ : Arms) (o : List ℕ) (split : ℕ) where
         total-at (newTo (at b₀ a₀) o split i) (getD o i 0) (leb split i) (leaveAt (at b₀ a₀) o split i),
       )
 
-module _ (t : Graph) (o : Order) (split : ℕ) (s : Stands most.numbers most.mostArms t (tabled t)) (y : Layable t o split)
+module _ (t : Graph) (o : Order) (split : ℕ) (y : Fits t o split)
     (b : Blocks) (a : Arms) (e : List ℕ) (p q k : ℕ) (l : Laying (onlyBlocks [] (t .b .marks) (t .b .ends) (t .b .weight)) (t .a) (inOrder o) split b a e p q k (o .len)) where
   long : length (inOrder o) ≡ o .len
   long = order-length o (y .sized) (omega (arith, y .few))
@@ -132,3 +132,21 @@ module _ (t : Graph) (o : Order) (split : ℕ) (s : Stands most.numbers most.mos
     few-arms = omega (arith, l .q-is, y .orderly .total, ap (armsTo (t .a .count) (inOrder o)) (sym long), l .few, y .few);
     exits-sized = l .placed .exits-sized;
   }
+
+-- whatever graph has these tables
+module _ (marks ends weight : List ℕ) (a : Arms) (o : Order) (split : ℕ) where
+  pub fits-arms : Layable marks ends weight a o split → ArmsSized a × ArmsWithin a most.arms × Orderly (a .count) (inOrder o) × (length marks ≡ most.blocks) × (length ends ≡ most.blocks) × (length weight ≡ most.blocks)
+  fits-arms y =
+      let v = y .over in
+      let s = y .fits .stands in (
+        subst ArmsSized (v .arms-are) (s .arms-sized),
+        subst (λ (x : Arms). ArmsWithin x most.arms) (v .arms-are) (λ n. omega (arith, s .fits n)),
+        subst (λ (x : Arms). Orderly (x .count) (inOrder o)) (v .arms-are) (y .fits .orderly),
+        subst (λ (x : List ℕ). length x ≡ most.blocks) (v .marks-is) (s .blocks-sized .marks),
+        subst (λ (x : List ℕ). length x ≡ most.blocks) (v .ends-is) (s .blocks-sized .ends),
+        subst (λ (x : List ℕ). length x ≡ most.blocks) (v .weight-is) (s .blocks-sized .weight),
+      )
+
+  pub lays : (b : Blocks) (c : Arms) (e : List ℕ) (p q k : ℕ) → Laying (onlyBlocks [] marks ends weight) a (inOrder o) split b c e p q k (o .len) →
+      Lays marks ends weight a o split (record { graph = record { blocks = p; arms = q; b = b; a = c }; exits = e; bridges = k })
+  lays b c e p q k l t v y = laid-of t o split y b c e p q k (rw (v .marks-is, v .ends-is, v .weight-is, v .arms-are) l)

@@ -153,13 +153,27 @@ layAt g o split =
     (let w = layPart g false numbers (take split o) in w ++ layPart g true (numbers + bridges w) (drop split o))
     (layPart g false numbers o)
 
--- what the tables, an order and its split are to be for it to be laid
-pub record Layable (t : Graph) (o : Order) (split : ℕ) : Type 0 where
+-- an order of a graph's blocks and its split can be laid
+pub record Fits (t : Graph) (o : Order) (split : ℕ) : Type 0 where
+  pub stands : Stands numbers mostArms t (tabled t)
   pub few : o .len ≤ numbers
   pub sized : length (o .block) ≡ blocks
   pub orderly : Orderly (t .a .count) (inOrder o)
   pub listed : (i : ℕ) → i < o .len → In (getD (o .block) i 0) (graph.numbersOf (tabled t))
   pub inside : split < blocks → split ≤ o .len
+
+-- the graph has these tables
+pub record Over (t : Graph) (marks ends weight : List ℕ) (a : Arms) : Type 0 where
+  pub marks-is : t .b .marks ≡ marks
+  pub ends-is : t .b .ends ≡ ends
+  pub weight-is : t .b .weight ≡ weight
+  pub arms-are : t .a ≡ a
+
+-- some graph with these tables has an order that can be laid
+pub record Layable (marks ends weight : List ℕ) (a : Arms) (o : Order) (split : ℕ) : Type 0 where
+  pub tables : Graph
+  pub over : Over tables marks ends weight a
+  pub fits : Fits tables o split
 
 -- what the tables of a laid order hold
 pub record LaidOf (g : graph.Graph) (o : List ℕ) (split : ℕ) (r : Laid) : Type 0 where
@@ -169,3 +183,7 @@ pub record LaidOf (g : graph.Graph) (o : List ℕ) (split : ℕ) (r : Laid) : Ty
   pub total : r .graph .arms ≡ armTotal (laidGraph (layAt g o split))
   pub few-arms : r .graph .arms ≤ arms
   pub exits-sized : length (r .exits) ≡ blocks
+
+-- of every such graph it holds what is laid
+abbrev pub Lays : List ℕ → List ℕ → List ℕ → Arms → Order → ℕ → Laid → Type 0
+Lays marks ends weight a o split r = (t : Graph) → Over t marks ends weight a → Fits t o split → LaidOf (tabled t) (inOrder o) split r

@@ -12,11 +12,11 @@ ghost use mathlib.Core.Bool.{cond};
 ghost use mathlib.Core.List.{[]};
 ghost use Prim.Native.Nat.{_+_, _≤_, _<_};
 ghost use lib.ListN.{length, getD, set, take};
-ghost use Rattle.limits.specs.Limits.{numbers, mostArms, blocks, arms};
+ghost use Rattle.limits.specs.Limits.{numbers, blocks, arms};
 ghost use Rattle.rules.specs.declared.Leaving.the-variants.{Exchanged};
 ghost use Rattle.rules.specs.Exits.{indirect, exitOf, armsLeft};
-ghost use Rattle.records.specs.Tables.{armsFrom, onlyBlocks, blockTables, onlyArms, armTables, tabled, ArmsSized, ArmsWithin, Stands, inOrder, optional};
-ghost use Rattle.exits.specs.Lays.{leavingOf, goesTo, sourceOf, bridgedAt, bridgeArm, Below, nextAt, Orderly, Laying, Layable, LaidOf};
+ghost use Rattle.records.specs.Tables.{armsFrom, onlyBlocks, blockTables, onlyArms, armTables, ArmsSized, ArmsWithin, inOrder, optional};
+ghost use Rattle.exits.specs.Lays.{leavingOf, goesTo, sourceOf, bridgedAt, bridgeArm, Below, nextAt, Orderly, Laying, Layable, Lays};
 
 // How a block is left, with its exit digit.
 pub struct Exit {
@@ -334,8 +334,12 @@ struct Counts {
 }
 
 // The blocks of the order, each with its bridge behind it, laid into tables that are empty but for marks, ends and weights.
-fn lay_blocks(
-    a: Arms,
+fn lay_blocks<'a>(
+    ofirst: &'a [u16; BLOCKS],
+    ocount: &'a [u16; BLOCKS],
+    oto: &'a [u16; ARMS],
+    oargs: &'a [u8; ARMS],
+    oheft: &'a [u64; ARMS],
     o: Order,
     split: usize,
     listed: &mut [u16; BLOCKS],
@@ -350,9 +354,9 @@ fn lay_blocks(
     args: &mut [u8; ARMS],
     heft: &mut [u64; ARMS],
 ) -> Counts
-    requires { ⌜ (o .len ≤ numbers) × (length (o .block) ≡ blocks) × ArmsSized a × ArmsWithin a arms × Orderly (a .count) (inOrder o) ⌝ }
-    requires { ⌜ Laying (onlyBlocks [] (now marks) (now ends) (now weight)) a (inOrder o) split (blockTables (now place) (now listed) (now marks) (now ends) (now weight)) (armTables (now first) (now count) (now to) (now args) (now heft)) (now exits) 0 0 0 0 ⌝ }
-    ensures { λ r. ⌜ Laying (onlyBlocks [] (now (marks .entry)) (now (ends .entry)) (now (weight .entry))) a (inOrder o) split (blockTables (now (place .exit)) (now (listed .exit)) (now (marks .exit)) (now (ends .exit)) (now (weight .exit))) (armTables (now (first .exit)) (now (count .exit)) (now (to .exit)) (now (args .exit)) (now (heft .exit))) (now (exits .exit)) (r .places) (r .arms) (r .bridges) (o .len) ⌝ }
+    requires { ⌜ (o .len ≤ numbers) × (length (o .block) ≡ blocks) × ArmsSized (armTables (now ofirst) (now ocount) (now oto) (now oargs) (now oheft)) × ArmsWithin (armTables (now ofirst) (now ocount) (now oto) (now oargs) (now oheft)) arms × Orderly (now ocount) (inOrder o) ⌝ }
+    requires { ⌜ Laying (onlyBlocks [] (now marks) (now ends) (now weight)) (armTables (now ofirst) (now ocount) (now oto) (now oargs) (now oheft)) (inOrder o) split (blockTables (now place) (now listed) (now marks) (now ends) (now weight)) (armTables (now first) (now count) (now to) (now args) (now heft)) (now exits) 0 0 0 0 ⌝ }
+    ensures { λ r. ⌜ Laying (onlyBlocks [] (now (marks .entry)) (now (ends .entry)) (now (weight .entry))) (armTables (now (ofirst .entry)) (now (ocount .entry)) (now (oto .entry)) (now (oargs .entry)) (now (oheft .entry))) (inOrder o) split (blockTables (now (place .exit)) (now (listed .exit)) (now (marks .exit)) (now (ends .exit)) (now (weight .exit))) (armTables (now (first .exit)) (now (count .exit)) (now (to .exit)) (now (args .exit)) (now (heft .exit))) (now (exits .exit)) (r .places) (r .arms) (r .bridges) (o .len) ⌝ }
 {
     let mut p: usize = 0;
     let mut q: usize = 0;
@@ -360,14 +364,14 @@ fn lay_blocks(
     let mut i: usize = 0;
     while i < o.len {
         let n = o.block[i];
-        let f = lists::entry_of(&a.first, n);
-        let c = lists::entry_of(&a.count, n);
+        let f = lists::entry_of(ofirst, n);
+        let c = lists::entry_of(ocount, n);
         let next = next_of(&o.block, o.len, split, i);
         let end = ends[lists::wide(n)];
-        let e = leaving(end, &a.first, &a.count, &a.to, n, next);
+        let e = leaving(end, ofirst, ocount, oto, n, next);
         let how = e.how;
         let new = (NUMBERS + k) as u16;
-        leave(&a.to, &a.args, &a.weight, f, c, how, new, to, args, heft, q);
+        leave(oto, oargs, oheft, f, c, how, new, to, args, heft, q);
         put_place(listed, place, first, count, exits, p, q, n, c, e.digit);
         p = p + 1;
         q = q + c;
@@ -377,9 +381,9 @@ fn lay_blocks(
             continue;
         }
         let x = f + arm;
-        put_arm(to, args, heft, q, a.to[x], a.args[x], a.weight[x]);
+        put_arm(to, args, heft, q, oto[x], oargs[x], oheft[x]);
         put_place(listed, place, first, count, exits, p, q, new, 1, 1);
-        put_bridge(marks, ends, weight, new, split < i, a.weight[x]);
+        put_bridge(marks, ends, weight, new, split < i, oheft[x]);
         p = p + 1;
         q = q + 1;
         k = k + 1;
@@ -391,16 +395,23 @@ fn lay_blocks(
     }
 }
 
-// The order as it is laid, its cold part from place `split` on (BLOCKS: there is none).
-pub fn lay(g: Graph, o: Order, split: usize) -> Laid
-    requires { ⌜ Stands numbers mostArms g (tabled g) × Layable g o split ⌝ }
-    ensures { λ r. ⌜ LaidOf (tabled g) (inOrder o) split r ⌝ }
+// The order as it is laid, its cold part from place `split` on (BLOCKS: there is none). The blocks' own tables come by value:
+// what is laid keeps them, with its bridges' entries behind.
+pub fn lay<'a>(
+    mut marks: [u8; BLOCKS],
+    mut ends: [u8; BLOCKS],
+    mut weight: [u64; BLOCKS],
+    ofirst: &'a [u16; BLOCKS],
+    ocount: &'a [u16; BLOCKS],
+    oto: &'a [u16; ARMS],
+    oargs: &'a [u8; ARMS],
+    oheft: &'a [u64; ARMS],
+    o: Order,
+    split: usize,
+) -> Laid
+    requires { ⌜ Layable marks ends weight (armTables (now ofirst) (now ocount) (now oto) (now oargs) (now oheft)) o split ⌝ }
+    ensures { λ r. ⌜ Lays marks ends weight (armTables (now (ofirst .entry)) (now (ocount .entry)) (now (oto .entry)) (now (oargs .entry)) (now (oheft .entry))) o split r ⌝ }
 {
-    let b = g.b;
-    let a = g.a;
-    let mut marks = b.marks;
-    let mut ends = b.ends;
-    let mut weight = b.weight;
     let mut listed: [u16; BLOCKS] = [0; BLOCKS];
     let mut place: [u16; BLOCKS] = [0; BLOCKS];
     let mut first: [u16; BLOCKS] = [0; BLOCKS];
@@ -410,7 +421,11 @@ pub fn lay(g: Graph, o: Order, split: usize) -> Laid
     let mut args: [u8; ARMS] = [0; ARMS];
     let mut heft: [u64; ARMS] = [0; ARMS];
     let n = lay_blocks(
-        a,
+        ofirst,
+        ocount,
+        oto,
+        oargs,
+        oheft,
         o,
         split,
         &mut listed,

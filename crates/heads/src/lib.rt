@@ -147,10 +147,10 @@ pub fn heads(g: Graph) -> [u8; marks::ROOM]
     requires { ⌜ Stands blocks arms g (tabled g) × Whole (tabled g) × (armTotal (tabled g) ≤ arms) ⌝ }
     ensures { λ r. ⌜ (length r ≡ room) × ((i : ℕ) → i < g .blocks → member r (getD (g .b .listed) i 0) ≡ headAt (tabled g) i) ⌝ }
 {
-    let piece = cycles::cycles(g);
     let b = g.b;
     let a = g.a;
     let n = g.blocks;
+    let piece = cycles::cycles(&b.listed, &a.first, &a.count, &a.to, n);
     let mut back = marks::none();
     mark_back(
         &b.listed,

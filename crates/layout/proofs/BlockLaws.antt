@@ -31,10 +31,23 @@ use Rattle.records.specs.declared.Order.{Order}
 use Rattle.records.specs.Tables.{tabled, Stands, inOrder}
 use Rattle.records.proofs.StandLaws.{once-listed, in-listed, in-tables, find-in, numbers-are}
 use Rattle.exits.specs.declared.Laid.{Laid}
-use Rattle.exits.specs.Lays.{layAt, armsTo, Layable, LaidOf}
+use Rattle.cold.specs.Lent as cold
+use Rattle.cold.specs.Lent.{OverMarks}
+use Rattle.exits.specs.Lays as exits
+use Rattle.exits.specs.Lays.{layAt, armsTo, Fits, LaidOf}
 use Rattle.exits.proofs.Turns.{order-length, order-get}
 use Rattle.layout.specs.Blocks.{splitAt, PlacedOf}
 use Rattle.layout.proofs.OrderLaws.{get-in, once-places, partition-count, order-total}
+
+-- a graph has its own tables
+pub same : (t : Graph) → cold.Over t (t .b .listed) (t .b .marks) (t .a .first) (t .a .count) (t .a .to) (t .blocks)
+same t = record { listed-is = refl; marks-is = refl; first-is = refl; count-is = refl; to-is = refl; blocks-is = refl }
+
+pub same-marks : (t : Graph) → OverMarks t (t .b .listed) (t .b .marks) (t .blocks)
+same-marks t = record { listed-is = refl; marks-is = refl; blocks-is = refl }
+
+pub same-tables : (t : Graph) → exits.Over t (t .b .marks) (t .b .ends) (t .b .weight) (t .a)
+same-tables t = record { marks-is = refl; ends-is = refl; weight-is = refl; arms-are = refl }
 
 -- tables stand for their own graph
 pub stands-own : {n m : ℕ} {t : Graph} {g : graph.Graph} → Stands n m t g → Stands n m t (tabled t)
@@ -161,8 +174,9 @@ module _ (t s : Graph) (stands : Stands most.numbers most.mostArms s (spread (ta
       cut-small : splits (tabled s) ≡ true → cut < most.blocks
       cut-small e = omega (arith, warm e, long, few, ap length (parted e), length-append (warmPart (tabled s) (inOrder o)) (coldPart (tabled s) (inOrder o)))
 
-      pub layable : Layable s p cut
+      pub layable : Fits s p cut
       layable = record {
+        stands = stands-own stands;
         few = few;
         sized = sized;
         orderly = record {

@@ -33,16 +33,34 @@ pub fn blocks(g: Graph) -> Placed
     requires { ⌜ Stands numbers mostArms g (tabled g) × Whole (tabled g) × (armTotal (tabled g) ≤ mostArms) ⌝ }
     ensures { λ r. ⌜ PlacedOf (tabled g) r ⌝ }
 {
-    let s = cold::spread(g);
-    let parts = cold::partition(s, walks::order(s));
+    let b = g.b;
+    let a = g.a;
+    let n = g.blocks;
+    let mut marks = b.marks;
+    cold::spread(&b.listed, &a.first, &a.count, &a.to, n, &mut marks);
+    let o = walks::order(&b.listed, &marks, &a.first, &a.count, &a.to, n);
+    let parts = cold::partition(&b.listed, &marks, n, o);
     let order = parts.order;
     let block = order.block;
     let cut = parts.split;
-    let laid = exits::lay(s, order, cut);
+    let ends = b.ends;
+    let weight = b.weight;
+    let laid = exits::lay(
+        marks,
+        ends,
+        weight,
+        &a.first,
+        &a.count,
+        &a.to,
+        &a.args,
+        &a.weight,
+        order,
+        cut,
+    );
     let graph = laid.graph;
-    let b = graph.b;
+    let tables = graph.b;
     Placed {
         laid,
-        split: split_place(&b.place, &block, cut),
+        split: split_place(&tables.place, &block, cut),
     }
 }

@@ -1,4 +1,4 @@
--- THEOREM laid-bounds: what is laid keeps within its tables: marks stay below a head's mark, and no pass makes more arms than there
+-- THEOREMS lay-marks, readied-total: what is laid keeps within its tables: marks stay below a head's, and no pass makes more arms than there
 -- were. Assumes nothing.
 use Prim.Native.Nat.{ℕ, zero, suc, _+_, _/_, _%_, _≤_, _<_}
 use native.Mathlib.Omega.{arith}

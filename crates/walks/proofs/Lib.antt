@@ -5,3 +5,4 @@ pub mod VisitLaws
 pub mod OrderLaws
 pub mod RootLaws
 pub mod GraphLaws
+pub mod LentLaws

@@ -1,7 +1,6 @@
 // Depth-first walks over the tables, the last arm of a block first, on a stack of their own.
 use limits::ARMS;
 use limits::BLOCKS;
-use records::Graph;
 use records::Order;
 use records::entry;
 use stack::Stack;
@@ -12,13 +11,11 @@ ghost use Prim.Native.Nat.{ℕ, _+_, _≤_, _<_};
 ghost use lib.ListN.{length, getD, take};
 ghost use Rattle.limits.specs.Limits.{numbers, mostArms, blocks, arms};
 ghost use Rattle.rules.specs.Lists.{keep};
-ghost use Rattle.rules.specs.PlainOrder.{order};
-ghost use Rattle.rules.proofs.Wholeness.{Whole};
-ghost use Rattle.rules.proofs.TwoWalks.{finished};
-ghost use Rattle.records.specs.Tables.{tabled, Stands, inOrder};
+ghost use Rattle.records.specs.Tables.{inOrder};
 ghost use Rattle.marks.specs.Sets.{room, member, size};
 ghost use Rattle.stack.specs.Frames.{stackOf};
 ghost use Rattle.walks.specs.Walking.{lastFirst, Counts, Started, Walks, Begins, Visits, Enters, Reaches, backwards, Roots, VisitsAll};
+ghost use Rattle.walks.specs.Lent.{Lent, LentMarked, Ordered, FinishedAll};
 
 // Where the last of a block's n arms goes that is not started, when `next` are.
 fn leads_to<'a>(
@@ -163,19 +160,23 @@ fn unreached<'a>(
 }
 
 // Depth-first from the entry, last arm first, in reverse finishing order; then the unreached blocks as listed.
-pub fn order(g: Graph) -> Order
-    requires { ⌜ Stands numbers mostArms g (tabled g) × Whole (tabled g) ⌝ }
-    ensures { λ r. ⌜ (inOrder r ≡ order (tabled g)) × (r .len ≡ g .blocks) ⌝ }
+pub fn order<'a>(
+    listed: &'a [u16; BLOCKS],
+    marks: &'a [u8; BLOCKS],
+    first: &'a [u16; BLOCKS],
+    count: &'a [u16; BLOCKS],
+    to: &'a [u16; ARMS],
+    n: usize,
+) -> Order
+    requires { ⌜ LentMarked numbers mostArms (now listed) (now marks) (now first) (now count) (now to) n ⌝ }
+    ensures { λ r. ⌜ Ordered (now (listed .entry)) (now (marks .entry)) (now (first .entry)) (now (count .entry)) (now (to .entry)) n r ⌝ }
 {
-    let b = g.b;
-    let a = g.a;
-    let n = g.blocks;
     let mut seen = marks::none();
     let mut done: [u16; BLOCKS] = [0; BLOCKS];
-    let from = entry::find(&b.listed, &b.marks, n);
-    let at = reach(&a.first, &a.count, &a.to, from, &mut seen, &mut done);
+    let from = entry::find(listed, marks, n);
+    let at = reach(first, count, to, from, &mut seen, &mut done);
     let o = reversed(&done, at);
-    unreached(o, &seen, &b.listed, n)
+    unreached(o, &seen, listed, n)
 }
 
 // The walk from each of n listed blocks in turn, with no block marked before.
@@ -203,23 +204,18 @@ fn visit_all<'a>(
 }
 
 // The first walk of `cycles`: from each listed block in turn, what is finished, the last first.
-pub fn finished(g: Graph) -> Order
-    requires { ⌜ Stands blocks arms g (tabled g) × Whole (tabled g) ⌝ }
-    ensures { λ r. ⌜ (inOrder r ≡ finished (tabled g)) × (r .len ≡ g .blocks) ⌝ }
+pub fn finished<'a>(
+    listed: &'a [u16; BLOCKS],
+    first: &'a [u16; BLOCKS],
+    count: &'a [u16; BLOCKS],
+    to: &'a [u16; ARMS],
+    n: usize,
+) -> Order
+    requires { ⌜ Lent blocks arms (now listed) (now first) (now count) (now to) n ⌝ }
+    ensures { λ r. ⌜ FinishedAll (now (listed .entry)) (now (first .entry)) (now (count .entry)) (now (to .entry)) n r ⌝ }
 {
-    let b = g.b;
-    let a = g.a;
-    let n = g.blocks;
     let mut seen = marks::none();
     let mut done: [u16; BLOCKS] = [0; BLOCKS];
-    let at = visit_all(
-        &a.first,
-        &a.count,
-        &a.to,
-        &b.listed,
-        n,
-        &mut seen,
-        &mut done,
-    );
+    let at = visit_all(first, count, to, listed, n, &mut seen, &mut done);
     reversed(&done, at)
 }

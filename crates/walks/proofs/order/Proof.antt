@@ -1,20 +1,23 @@
 -- `walks::order` meets its contract.
 use native.Mathlib.Omega.{arith}
-use Rattle.limits.specs.Limits.{numbers, mostArms}
 use Rattle.walks.proofs.RootLaws.{counts-most}
-use Rattle.walks.proofs.GraphLaws.{stands-enters, order-long, order-made, made-long}
+use Rattle.walks.proofs.LentLaws.{lent-few, lent-sized, marks-sized, lent-enters, lent-long, ordered}
 use borrow.Author.Needs.{needs}
 use Rattle.walks.proofs.order.Statement.{statement}
 use Rattle.walks.proofs.order.Tie as tie
 
+find-requires : tie.Need-find-requires
+find-requires c κs =
+    let m = c .before .pre in
+    (omega (arith, lent-few (m .lent)), lent-sized (m .lent), marks-sized m)
+
 reach-requires : tie.Need-reach-requires
 reach-requires c κs =
-    let s = c .before .before .before .before .before .before .before .before .before .before .before .before .before in
-    let t = s .args .g in
-    let none = c .before .before .before .before .before .before .before .before .before .before .none in (
-      stands-enters numbers mostArms t (omega arith) (omega arith) (s .pre .0) (s .pre .1) (c .before .before .before .before .before .before .find .result) (c .before .before .before .before .before .before .find .ensures),
-      (none .ensures .0, search needs, none .ensures .1),
-    )
+    let s = c .before .before .before .before in
+    let x = s .args in
+    let f = c .before .before .find in
+    let none = c .before .before .before .none .ensures in
+    (lent-enters (x .listed .now) (x .first .now) (x .count .now) (x .to .now) (x .n) (x .marks .now) (f .result) (f .ensures) (s .pre), (none .0, search needs, none .1))
 
 reversed-requires : tie.Need-reversed-requires
 reversed-requires c κs =
@@ -23,27 +26,25 @@ reversed-requires c κs =
 
 unreached-requires : tie.Need-unreached-requires
 unreached-requires c κs =
-    let s = c .before .before .before .before .before .before .before .before .before .before .before .before .before .before .before .before .before .before .before in
-    let t = s .args .g in
-    let f = c .before .before .before .before .before .before .before .before .before .before .before .before .find in
-    let r = c .before .before .before .before .before .reach in
-    let o = c .before .before .before .reversed in
-    let long = order-long numbers mostArms t (omega arith) (omega arith) (s .pre .0) (s .pre .1) (f .result) _ _ (r .result) (f .ensures) (r .ensures .1) in (
-      (r .ensures .0 .seen-sized, s .pre .0 .blocks-sized .listed, omega (arith, s .pre .0 .few)),
-      omega (arith, long, o .ensures .1, s .pre .0 .few),
+    let s = c .before .before .before .before .before .before .before .before in
+    let x = s .args in
+    let f = c .before .before .before .before .before .before .find in
+    let r = c .before .before .before .reach in
+    let o = c .before .reversed in
+    let few = lent-few (s .pre .lent) in
+    let long = lent-long (x .listed .now) (x .first .now) (x .count .now) (x .to .now) (x .n) (x .marks .now) (f .result) (f .ensures) _ _ (r .result) (r .ensures .1) (s .pre) in (
+      (r .ensures .0 .seen-sized, lent-sized (s .pre .lent), omega (arith, few)),
+      omega (arith, long, o .ensures .1, few),
     )
 
 returns : tie.Need-returns
 returns c =
-    let s = c .before .before .before .before .before .before .before .before .before .before .before .before .before .before .before .before .before .before .before .before in
-    let t = s .args .g in
-    let f = c .before .before .before .before .before .before .before .before .before .before .before .before .before .find in
-    let r = c .before .before .before .before .before .before .reach in
-    let o = c .before .before .before .before .reversed in
-    let u = c .unreached in (
-      order-made numbers mostArms t (omega arith) (omega arith) (s .pre .0) (s .pre .1) (f .result) _ _ (r .result) (f .ensures) (r .ensures .1) (u .ensures .0) (o .ensures .0),
-      made-long numbers mostArms t (omega arith) (omega arith) (s .pre .0) (s .pre .1) (f .result) _ _ (r .result) (f .ensures) (r .ensures .1) (u .ensures .1) (o .ensures .1),
-    )
+    let x = c .before .before .before .before .before .before .before .before .before .args in
+    let f = c .before .before .before .before .before .before .before .find in
+    let r = c .before .before .before .before .reach in
+    let o = c .before .before .reversed in
+    let u = c .unreached in
+    ordered (x .listed .now) (x .first .now) (x .count .now) (x .to .now) (x .n) (x .marks .now) (f .result) (f .ensures) _ _ (r .result) (r .ensures .1) (o .result) (u .result) (o .ensures .0) (o .ensures .1) (u .ensures .0) (u .ensures .1)
 
 pub order-spec : {M : Type 1} → statement M
-order-spec = tie.close (tie.spec (λ c κs. search needs) (λ c κs. search needs) reach-requires reversed-requires unreached-requires returns)
+order-spec = tie.close (tie.spec (λ c κs. search needs) find-requires reach-requires reversed-requires unreached-requires returns)
