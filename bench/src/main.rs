@@ -6,7 +6,7 @@
 
 mod archive;
 mod graphs;
-mod layout;
+mod layouts;
 mod plain;
 mod stack;
 mod turns;
@@ -23,7 +23,7 @@ fn main() -> ExitCode {
     println!("{}", write_back::timed(archive).row("write back 8,192 bytes"));
     if oracle::TEXT {
         for (name, graph) in graphs::all() {
-            println!("{}", layout::timed(archive, &graph).row(&format!("layout, {name}")));
+            println!("{}", layouts::timed(archive, &graph).row(&format!("layout, {name}")));
         }
     } else {
         println!("layouts are not timed: the Rust text is missing (set RUCC_TEXT)");
