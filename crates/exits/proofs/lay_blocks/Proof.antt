@@ -4,6 +4,7 @@ use native.Mathlib.Omega.{arith}
 use mathlib.Core.Path.{_≡_, refl, sym, ap, _∙_, subst}
 use mathlib.Core.List.{[]}
 use Rattle.records.specs.Tables.{onlyBlocks, blockTables, armTables, inOrder}
+use Rattle.limits.specs.Limits.{arms}
 use lib.ListN.{length, getD, length-set}
 use Rattle.rules.specs.Exits.{exitOf}
 use Rattle.exits.specs.Lays.{bridgeArm, Laying}
@@ -155,7 +156,7 @@ add-x c =
     let ve = c .before .before .before .before .before .before .before .before .before .before .before .before .leaving .ensures in
     let be = c .before .bridge-arm .ensures in
     let h = how-is (onlyBlocks [] (x .marks .now) (x .ends .now) (x .weight .now)) (armTables (x .ofirst .now) (x .ocount .now) (x .oto .now) (x .oargs .now) (x .oheft .now)) (x .t6) (x .split) (y .0 .1) (y .0 .0) (y .0 .4) (l .i) _ _ _ t (ap (λ (m : ℕ). getD (l .ends) m 0) we ∙ l .inv .ends _ (w .n)) ne (ve .0) in
-    let z : bridgeArm _ ≡ 512 → ⊥ = λ e. c .if1 .left (be ∙ e) in
+    let z : bridgeArm _ ≡ arms → ⊥ = λ e. c .if1 .left (be ∙ e) in
     let b = bridge-low (onlyBlocks [] (x .marks .now) (x .ends .now) (x .weight .now)) (armTables (x .ofirst .now) (x .ocount .now) (x .oto .now) (x .oargs .now) (x .oheft .now)) (x .t6) (x .split) (y .0 .1) (y .0 .0) (y .0 .4) (l .i) _ t h z in
     record { fits = omega (arith, fe, be, b, y .0 .3 (getD (x .t6 .block) (l .i) 0)) }
 
@@ -173,7 +174,7 @@ mul-put-arm c =
     let ve = c .before .before .before .before .before .before .before .before .before .before .before .before .before .before .before .leaving .ensures in
     let be = c .before .before .before .before .bridge-arm .ensures in
     let h = how-is (onlyBlocks [] (x .marks .now) (x .ends .now) (x .weight .now)) (armTables (x .ofirst .now) (x .ocount .now) (x .oto .now) (x .oargs .now) (x .oheft .now)) (x .t6) (x .split) (y .0 .1) (y .0 .0) (y .0 .4) (l .i) _ _ _ t (ap (λ (m : ℕ). getD (l .ends) m 0) we ∙ l .inv .ends _ (w .n)) ne (ve .0) in
-    let z : bridgeArm _ ≡ 512 → ⊥ = λ e. c .before .before .before .if1 .left (be ∙ e) in
+    let z : bridgeArm _ ≡ arms → ⊥ = λ e. c .before .before .before .if1 .left (be ∙ e) in
     let b = bridge-low (onlyBlocks [] (x .marks .now) (x .ends .now) (x .weight .now)) (armTables (x .ofirst .now) (x .ocount .now) (x .oto .now) (x .oargs .now) (x .oheft .now)) (x .t6) (x .split) (y .0 .1) (y .0 .0) (y .0 .4) (l .i) _ t h z in
     record { fits = omega (arith, fe, be, b, y .0 .3 (getD (x .t6 .block) (l .i) 0)) }
 
@@ -191,7 +192,7 @@ element-copy-out-put-arm c =
     let ve = c .before .before .before .before .before .before .before .before .before .before .before .before .before .before .before .leaving .ensures in
     let be = c .before .before .before .before .bridge-arm .ensures in
     let h = how-is (onlyBlocks [] (x .marks .now) (x .ends .now) (x .weight .now)) (armTables (x .ofirst .now) (x .ocount .now) (x .oto .now) (x .oargs .now) (x .oheft .now)) (x .t6) (x .split) (y .0 .1) (y .0 .0) (y .0 .4) (l .i) _ _ _ t (ap (λ (m : ℕ). getD (l .ends) m 0) we ∙ l .inv .ends _ (w .n)) ne (ve .0) in
-    let z : bridgeArm _ ≡ 512 → ⊥ = λ e. c .before .before .before .if1 .left (be ∙ e) in
+    let z : bridgeArm _ ≡ arms → ⊥ = λ e. c .before .before .before .if1 .left (be ∙ e) in
     let b = bridge-low (onlyBlocks [] (x .marks .now) (x .ends .now) (x .weight .now)) (armTables (x .ofirst .now) (x .ocount .now) (x .oto .now) (x .oargs .now) (x .oheft .now)) (x .t6) (x .split) (y .0 .1) (y .0 .0) (y .0 .4) (l .i) _ t h z in
     omega (arith, fe, be, b, y .0 .3 (getD (x .t6 .block) (l .i) 0))
 
@@ -209,7 +210,7 @@ element-copy-out-put-arm-2 c =
     let ve = c .before .before .before .before .before .before .before .before .before .before .before .before .before .before .before .before .leaving .ensures in
     let be = c .before .before .before .before .before .bridge-arm .ensures in
     let h = how-is (onlyBlocks [] (x .marks .now) (x .ends .now) (x .weight .now)) (armTables (x .ofirst .now) (x .ocount .now) (x .oto .now) (x .oargs .now) (x .oheft .now)) (x .t6) (x .split) (y .0 .1) (y .0 .0) (y .0 .4) (l .i) _ _ _ t (ap (λ (m : ℕ). getD (l .ends) m 0) we ∙ l .inv .ends _ (w .n)) ne (ve .0) in
-    let z : bridgeArm _ ≡ 512 → ⊥ = λ e. c .before .before .before .before .if1 .left (be ∙ e) in
+    let z : bridgeArm _ ≡ arms → ⊥ = λ e. c .before .before .before .before .if1 .left (be ∙ e) in
     let b = bridge-low (onlyBlocks [] (x .marks .now) (x .ends .now) (x .weight .now)) (armTables (x .ofirst .now) (x .ocount .now) (x .oto .now) (x .oargs .now) (x .oheft .now)) (x .t6) (x .split) (y .0 .1) (y .0 .0) (y .0 .4) (l .i) _ t h z in
     omega (arith, fe, be, b, y .0 .3 (getD (x .t6 .block) (l .i) 0))
 
@@ -227,7 +228,7 @@ mul-put-arm-2 c =
     let ve = c .before .before .before .before .before .before .before .before .before .before .before .before .before .before .before .before .before .leaving .ensures in
     let be = c .before .before .before .before .before .before .bridge-arm .ensures in
     let h = how-is (onlyBlocks [] (x .marks .now) (x .ends .now) (x .weight .now)) (armTables (x .ofirst .now) (x .ocount .now) (x .oto .now) (x .oargs .now) (x .oheft .now)) (x .t6) (x .split) (y .0 .1) (y .0 .0) (y .0 .4) (l .i) _ _ _ t (ap (λ (m : ℕ). getD (l .ends) m 0) we ∙ l .inv .ends _ (w .n)) ne (ve .0) in
-    let z : bridgeArm _ ≡ 512 → ⊥ = λ e. c .before .before .before .before .before .if1 .left (be ∙ e) in
+    let z : bridgeArm _ ≡ arms → ⊥ = λ e. c .before .before .before .before .before .if1 .left (be ∙ e) in
     let b = bridge-low (onlyBlocks [] (x .marks .now) (x .ends .now) (x .weight .now)) (armTables (x .ofirst .now) (x .ocount .now) (x .oto .now) (x .oargs .now) (x .oheft .now)) (x .t6) (x .split) (y .0 .1) (y .0 .0) (y .0 .4) (l .i) _ t h z in
     record { fits = omega (arith, fe, be, b, y .0 .3 (getD (x .t6 .block) (l .i) 0)) }
 
@@ -245,7 +246,7 @@ element-copy-out-put-arm-3 c =
     let ve = c .before .before .before .before .before .before .before .before .before .before .before .before .before .before .before .before .before .leaving .ensures in
     let be = c .before .before .before .before .before .before .bridge-arm .ensures in
     let h = how-is (onlyBlocks [] (x .marks .now) (x .ends .now) (x .weight .now)) (armTables (x .ofirst .now) (x .ocount .now) (x .oto .now) (x .oargs .now) (x .oheft .now)) (x .t6) (x .split) (y .0 .1) (y .0 .0) (y .0 .4) (l .i) _ _ _ t (ap (λ (m : ℕ). getD (l .ends) m 0) we ∙ l .inv .ends _ (w .n)) ne (ve .0) in
-    let z : bridgeArm _ ≡ 512 → ⊥ = λ e. c .before .before .before .before .before .if1 .left (be ∙ e) in
+    let z : bridgeArm _ ≡ arms → ⊥ = λ e. c .before .before .before .before .before .if1 .left (be ∙ e) in
     let b = bridge-low (onlyBlocks [] (x .marks .now) (x .ends .now) (x .weight .now)) (armTables (x .ofirst .now) (x .ocount .now) (x .oto .now) (x .oargs .now) (x .oheft .now)) (x .t6) (x .split) (y .0 .1) (y .0 .0) (y .0 .4) (l .i) _ t h z in
     omega (arith, fe, be, b, y .0 .3 (getD (x .t6 .block) (l .i) 0))
 
@@ -288,7 +289,7 @@ mul-put-bridge c =
     let ve = c .before .before .before .before .before .before .before .before .before .before .before .before .before .before .before .before .before .before .before .before .before .before .before .before .before .before .before .before .leaving .ensures in
     let be = c .before .before .before .before .before .before .before .before .before .before .before .before .before .before .before .before .before .bridge-arm .ensures in
     let h = how-is (onlyBlocks [] (x .marks .now) (x .ends .now) (x .weight .now)) (armTables (x .ofirst .now) (x .ocount .now) (x .oto .now) (x .oargs .now) (x .oheft .now)) (x .t6) (x .split) (y .0 .1) (y .0 .0) (y .0 .4) (l .i) _ _ _ t (ap (λ (m : ℕ). getD (l .ends) m 0) we ∙ l .inv .ends _ (w .n)) ne (ve .0) in
-    let z : bridgeArm _ ≡ 512 → ⊥ = λ e. c .before .before .before .before .before .before .before .before .before .before .before .before .before .before .before .before .if1 .left (be ∙ e) in
+    let z : bridgeArm _ ≡ arms → ⊥ = λ e. c .before .before .before .before .before .before .before .before .before .before .before .before .before .before .before .before .if1 .left (be ∙ e) in
     let b = bridge-low (onlyBlocks [] (x .marks .now) (x .ends .now) (x .weight .now)) (armTables (x .ofirst .now) (x .ocount .now) (x .oto .now) (x .oargs .now) (x .oheft .now)) (x .t6) (x .split) (y .0 .1) (y .0 .0) (y .0 .4) (l .i) _ t h z in
     record { fits = omega (arith, fe, be, b, y .0 .3 (getD (x .t6 .block) (l .i) 0)) }
 
@@ -306,7 +307,7 @@ element-copy-out-put-bridge c =
     let ve = c .before .before .before .before .before .before .before .before .before .before .before .before .before .before .before .before .before .before .before .before .before .before .before .before .before .before .before .before .leaving .ensures in
     let be = c .before .before .before .before .before .before .before .before .before .before .before .before .before .before .before .before .before .bridge-arm .ensures in
     let h = how-is (onlyBlocks [] (x .marks .now) (x .ends .now) (x .weight .now)) (armTables (x .ofirst .now) (x .ocount .now) (x .oto .now) (x .oargs .now) (x .oheft .now)) (x .t6) (x .split) (y .0 .1) (y .0 .0) (y .0 .4) (l .i) _ _ _ t (ap (λ (m : ℕ). getD (l .ends) m 0) we ∙ l .inv .ends _ (w .n)) ne (ve .0) in
-    let z : bridgeArm _ ≡ 512 → ⊥ = λ e. c .before .before .before .before .before .before .before .before .before .before .before .before .before .before .before .before .if1 .left (be ∙ e) in
+    let z : bridgeArm _ ≡ arms → ⊥ = λ e. c .before .before .before .before .before .before .before .before .before .before .before .before .before .before .before .before .if1 .left (be ∙ e) in
     let b = bridge-low (onlyBlocks [] (x .marks .now) (x .ends .now) (x .weight .now)) (armTables (x .ofirst .now) (x .ocount .now) (x .oto .now) (x .oargs .now) (x .oheft .now)) (x .t6) (x .split) (y .0 .1) (y .0 .0) (y .0 .4) (l .i) _ t h z in
     omega (arith, fe, be, b, y .0 .3 (getD (x .t6 .block) (l .i) 0))
 
