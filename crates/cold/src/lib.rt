@@ -31,7 +31,7 @@ fn side_of(marks: u8) -> u8
     marks / 2 % 2
 }
 
-fn is_cold(marks: u8) -> bool
+pub fn is_cold(marks: u8) -> bool
     ensures { λ r. ⌜ r ≡ isCold marks ⌝ }
 {
     side_of(marks) == 1
