@@ -1,21 +1,21 @@
 -- What the lent tables have for a block is the block that its number finds. Assumes nothing.
-use Prim.Native.Nat.{ℕ, zero, suc, _+_, _≤_, _<_}
-use native.Mathlib.Nat.{add-zero, add-suc}
+use Prim.Native.Nat.{ℕ, zero, suc, _+_, _<_}
+use native.Mathlib.Nat.{add-zero}
 use native.Mathlib.Omega.{arith}
 use mathlib.Core.Path.{_≡_, refl, sym, ap, _∙_, subst}
 use mathlib.Core.Logic.{inl, inr}
-use mathlib.Core.List.{List, [], _∷_}
+use mathlib.Core.List.{List}
 use lib.ListN.{length, getD}
-use Rattle.limits.specs.Limits.{numbers, mostArms, blocks, arms}
+use Rattle.limits.specs.Limits.{numbers, blocks, arms}
 use Rattle.rules.specs.Graph as graph
-use Rattle.rules.specs.Graph.{isCold, coldAt, targets}
+use Rattle.rules.specs.Graph.{isCold, coldAt}
 use Rattle.rules.proofs.Membership.{In}
 use Rattle.rules.proofs.Wholeness.{block-in, arm-target}
 use Rattle.records.specs.declared.Arms.{Arms}
 use Rattle.records.specs.declared.Graph.{Graph}
 use Rattle.records.specs.Tables.{armAt, armsFrom, leaves, blockAt, tabled}
 use Rattle.records.proofs.StandLaws.{in-listed, find-in}
-use Rattle.flow.specs.Lent.{Sized, Over, Flows, Of}
+use Rattle.flow.specs.Lent.{Sized, Flows, Of}
 
 -- arm j of those from arm f on
 pub from-in : (a : Arms) (f n j : ℕ) → j < n → In (armAt a (f + j)) (armsFrom a f n)

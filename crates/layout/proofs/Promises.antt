@@ -1,20 +1,19 @@
 -- What holds of every layout call, by its contract alone: of any answer and any lent bytes that the contract allows. The demands are
 -- spelled out in `rules` (proofs/Demands); here they are said of what the call writes. Assumes nothing.
-use Prim.Native.Nat.{ℕ, _≤_, _<_}
+use Prim.Native.Nat.{ℕ}
 use native.Mathlib.Omega.{arith}
-use mathlib.Core.Path.{_≡_, refl, sym, ap, _∙_, subst}
-use mathlib.Core.Bool.{Bool, true, false, cond}
+use mathlib.Core.Path.{_≡_, refl, sym, ap, _∙_}
+use mathlib.Core.Bool.{Bool, true, false}
 use mathlib.Core.Logic.{_⊎_, inl, inr}
 use mathlib.Core.List.{List, _++_}
 use lib.Dec.{eqb, ltb}
 use lib.ListN.{length, drop}
-use borrow.Author.Tests.{eqb-true, eqb-false, ltb-true, ltb-false}
+use borrow.Author.Tests.{eqb-true, eqb-false}
 use Rattle.limits.specs.Limits.{numbers, blocks}
 use Rattle.rules.specs.declared.Answer.{Answer}
 use Rattle.rules.specs.Graph.{Graph}
 use Rattle.rules.specs.Records.{records, graphOf}
 use Rattle.rules.specs.Refusals.{verdict}
-use Rattle.rules.specs.Forward.{moves}
 use Rattle.rules.specs.Exits.{Place, bridges}
 use Rattle.rules.specs.Laid.{layout, splitOf, laidBytes}
 use Rattle.rules.specs.Outcome.{Outcome, refusal, refused, laid, layoutOf, layoutBlocks}

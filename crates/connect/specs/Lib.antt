@@ -1,0 +1,3 @@
+pub mod Joined
+pub mod Links
+pub mod Following

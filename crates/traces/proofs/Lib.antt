@@ -1,0 +1,5 @@
+pub mod GrowLaws
+pub mod HeldLaws
+pub mod FillLaws
+pub mod RoundLaws
+pub mod JoinLaws
