@@ -10,13 +10,13 @@ use lib.Seq.{getD-set-same, getD-set-other}
 use Rattle.limits.specs.Limits as most
 use Rattle.lists.proofs.Choices.{split-lt}
 use Rattle.lists.proofs.Tables.{set-get}
-use Rattle.rules.specs.Graph as graph
 use Rattle.rules.specs.Exits.{Place}
 use Rattle.records.specs.declared.Blocks.{Blocks}
 use Rattle.records.specs.declared.Arms.{Arms}
 use Rattle.records.specs.Tables.{armsFrom, leaves, blockAt, armTables, ArmsWithin}
 use Rattle.records.proofs.TableLaws.{arms-kept}
-use Rattle.exits.specs.Lays.{Below, placeAt, placesTo, Placed}
+use Rattle.exits.specs.Lays.{Below, placeAt, placesTo}
+use Rattle.exits.proofs.Steps.{Placed}
 
 -- places that are the same
 module _ (b c : Blocks) (a d : Arms) (e f : List ℕ) where

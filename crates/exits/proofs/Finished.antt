@@ -1,13 +1,13 @@
 -- The tables before the first block is laid, and after the last. Assumes nothing.
-use Prim.Native.Nat.{ℕ, zero, suc, _+_, _<_}
+use Prim.Native.Nat.{ℕ, zero, suc, _+_, _≤_, _<_}
 use native.Mathlib.Omega.{arith}
 use mathlib.Core.Path.{_≡_, refl, sym, ap, _∙_, subst}
 use mathlib.Core.Bool.{Bool}
 use mathlib.Core.List.{List, [], _∷_, _++_}
 use lib.Dec.{leb}
-use lib.ListN.{length, getD, replicate}
+use lib.ListN.{length, getD}
 use Rattle.limits.specs.Limits as most
-use Rattle.lists.proofs.Tables.{zero-get, within}
+use Rattle.lists.proofs.Tables.{within}
 use Rattle.rules.specs.declared.Leaving.{Leaving}
 use Rattle.rules.specs.declared.Leaving.the-variants.{Nothing, Jump, Branch, Exchanged, Bridge}
 use Rattle.rules.specs.Graph as graph
@@ -19,45 +19,40 @@ use Rattle.records.specs.declared.Blocks.{Blocks}
 use Rattle.records.specs.declared.Arms.{Arms}
 use Rattle.records.specs.declared.Graph.{Graph}
 use Rattle.records.specs.declared.Order.{Order}
-use Rattle.records.specs.Tables.{ArmsSized, ArmsWithin, blockAt, leaves, upTo, tabled, onlyBlocks, blockTables, armTables, inOrder}
+use Rattle.records.specs.Tables.{ArmsSized, ArmsWithin, blockAt, leaves, upTo, tabled, onlyBlocks, blockTables, inOrder}
 use Rattle.records.proofs.TableLaws.{leaves-count}
 use Rattle.records.proofs.StandLaws.{find-in}
-use Rattle.exits.specs.Lays.{Orderly, leaveAt, newTo, laidAt, laidTo, layAt, placeAt, placesTo, armsTo, at, Laying, Fits, Layable, LaidOf, Lays}
+use Rattle.exits.specs.Lays.{Orderly, layAt, placeAt, placesTo, armsTo, Fits, Layable, Unlaid, LaidOf, Lays}
+use Rattle.exits.proofs.Steps.{leaveAt, newTo, laidAt, laidTo, at, Laying}
 use Rattle.exits.proofs.LeftArms.{left-length}
 use Rattle.exits.proofs.Turns.{order-length, order-get}
 use Rattle.exits.proofs.Parts.{new-bridges, laid-is}
 
 -- ---- before
-module _ (b₀ : Blocks) (a₀ : Arms) (o : List ℕ) (split : ℕ) (marks ends weight : List ℕ)
-    (ms : length marks ≡ most.blocks) (es : length ends ≡ most.blocks) (ws : length weight ≡ most.blocks) where
-  abbrev zeros : List ℕ
-  zeros = replicate most.blocks 0
-
-  abbrev none : List ℕ
-  none = replicate most.arms 0
-
-  pub laying-start : Laying (onlyBlocks [] marks ends weight) a₀ o split (blockTables zeros zeros marks ends weight) (armTables zeros zeros none none none) zeros 0 0 0 0
-  unfolding placesTo laidTo newTo armsTo
-  laying-start = record {
-    placed = record {
-      back = λ x h. absurd (omega (arith, h));
-      within = λ n. omega (arith, zero-get most.blocks n);
-      blocks-sized = record { place = refl; listed = refl; marks = ms; ends = es; weight = ws };
-      arms-sized = record { first = refl; count = refl; to = refl; args = refl; weight = refl };
-      exits-sized = refl;
-    };
-    places = refl;
-    p-is = refl;
-    few = omega arith;
-    within = omega arith;
-    new-is = refl;
-    q-is = refl;
-    unlaid = λ j h k. zero-get most.blocks (getD o j 0);
-    spare = λ m h. zero-get most.blocks m;
-    marks = λ m h. refl;
-    ends = λ m h. refl;
-    weight = λ m h. refl;
-  }
+pub laying-start : (marks ends weight : List ℕ) (a₀ : Arms) (o : List ℕ) (split : ℕ) (listed place exits : List ℕ) (a : Arms)
+    → length marks ≡ most.blocks → length ends ≡ most.blocks → length weight ≡ most.blocks → Unlaid listed place exits a
+    → Laying (onlyBlocks [] marks ends weight) a₀ o split (blockTables place listed marks ends weight) a exits 0 0 0 0
+unfolding placesTo laidTo newTo armsTo
+laying-start marks ends weight a₀ o split listed place exits a ms es ws u = record {
+  placed = record {
+    back = λ x h. absurd (omega (arith, h));
+    within = u .no-arms;
+    blocks-sized = record { place = u .place-sized; listed = u .listed-sized; marks = ms; ends = es; weight = ws };
+    arms-sized = u .arms-sized;
+    exits-sized = u .exits-sized;
+  };
+  places = refl;
+  p-is = refl;
+  few = omega arith;
+  within = omega arith;
+  new-is = refl;
+  q-is = refl;
+  unlaid = λ j h k. u .unplaced (getD o j 0);
+  spare = λ m h. u .unplaced m;
+  marks = λ m h. refl;
+  ends = λ m h. refl;
+  weight = λ m h. refl;
+}
 
 -- ---- after
 pub places-graph : (b : Blocks) (a : Arms) (e : List ℕ) (p : ℕ) → laidGraph (placesTo b a e p) ≡ upTo b a p
@@ -114,7 +109,7 @@ module _ (t : Graph) (o : Order) (split : ℕ) (y : Fits t o split)
   laid-places = l .places ∙ all-laid
 
   -- THE LAW
-  pub laid-of : LaidOf (tabled t) (inOrder o) split (record { graph = record { blocks = p; arms = q; b = b; a = a }; exits = e; bridges = k })
+  pub laid-of : LaidOf (tabled t) (inOrder o) split b a e (record { places = p; arms = q; bridges = k })
   unfolding tabled
   laid-of = record {
     places = laid-places;
@@ -135,18 +130,26 @@ module _ (t : Graph) (o : Order) (split : ℕ) (y : Fits t o split)
 
 -- whatever graph has these tables
 module _ (marks ends weight : List ℕ) (a : Arms) (o : Order) (split : ℕ) where
-  pub fits-arms : Layable marks ends weight a o split → ArmsSized a × ArmsWithin a most.arms × Orderly (a .count) (inOrder o) × (length marks ≡ most.blocks) × (length ends ≡ most.blocks) × (length weight ≡ most.blocks)
-  fits-arms y =
-      let v = y .over in
+  pub fits-order : Layable marks ends weight a o split → (o .len ≤ most.numbers) × (length (o .block) ≡ most.blocks) × ArmsSized a × ArmsWithin a most.arms × Orderly (a .count) (inOrder o)
+  fits-order y =
+      let v = y .over .arms-are in
       let s = y .fits .stands in (
-        subst ArmsSized (v .arms-are) (s .arms-sized),
-        subst (λ (x : Arms). ArmsWithin x most.arms) (v .arms-are) (λ n. omega (arith, s .fits n)),
-        subst (λ (x : Arms). Orderly (x .count) (inOrder o)) (v .arms-are) (y .fits .orderly),
-        subst (λ (x : List ℕ). length x ≡ most.blocks) (v .marks-is) (s .blocks-sized .marks),
-        subst (λ (x : List ℕ). length x ≡ most.blocks) (v .ends-is) (s .blocks-sized .ends),
-        subst (λ (x : List ℕ). length x ≡ most.blocks) (v .weight-is) (s .blocks-sized .weight),
+        y .fits .few,
+        y .fits .sized,
+        subst ArmsSized v (s .arms-sized),
+        subst (λ (x : Arms). ArmsWithin x most.arms) v (λ n. omega (arith, s .fits n)),
+        subst (λ (x : Arms). Orderly (x .count) (inOrder o)) v (y .fits .orderly),
+      )
+
+  pub fits-blocks : Layable marks ends weight a o split → (length marks ≡ most.blocks) × (length ends ≡ most.blocks) × (length weight ≡ most.blocks)
+  fits-blocks y =
+      let v = y .over in
+      let s = y .fits .stands .blocks-sized in (
+        subst (λ (x : List ℕ). length x ≡ most.blocks) (v .marks-is) (s .marks),
+        subst (λ (x : List ℕ). length x ≡ most.blocks) (v .ends-is) (s .ends),
+        subst (λ (x : List ℕ). length x ≡ most.blocks) (v .weight-is) (s .weight),
       )
 
   pub lays : (b : Blocks) (c : Arms) (e : List ℕ) (p q k : ℕ) → Laying (onlyBlocks [] marks ends weight) a (inOrder o) split b c e p q k (o .len) →
-      Lays marks ends weight a o split (record { graph = record { blocks = p; arms = q; b = b; a = c }; exits = e; bridges = k })
+      Lays marks ends weight a o split b c e (record { places = p; arms = q; bridges = k })
   lays b c e p q k l t v y = laid-of t o split y b c e p q k (rw (v .marks-is, v .ends-is, v .weight-is, v .arms-are) l)

@@ -21,7 +21,8 @@ use Rattle.records.specs.declared.Blocks.{Blocks}
 use Rattle.records.specs.declared.Arms.{Arms}
 use Rattle.records.specs.Tables.{armAt, armsFrom, leaves, blockAt, onlyArms, armTables}
 use Rattle.records.proofs.TableLaws.{arms-kept, leaves-count}
-use Rattle.exits.specs.Lays.{Below, bridgeArm, leaveAt, newTo, laidAt, laidTo, placesTo, armsTo, Orderly, Placed, at, Laying}
+use Rattle.exits.specs.Lays.{Below, bridgeArm, placesTo, armsTo, Orderly}
+use Rattle.exits.proofs.Steps.{leaveAt, newTo, laidAt, laidTo, Placed, at, Laying}
 use Rattle.exits.proofs.LeftArms.{arms-get, put, put-same, put-other}
 use Rattle.exits.proofs.Adding.{newBlocks, newArms, newExits, Only, newPlace, places-more, placed-more}
 

@@ -1,3 +1,4 @@
+pub mod Steps
 pub mod Decisions
 pub mod LeftArms
 pub mod Adding

@@ -17,7 +17,8 @@ use Rattle.rules.specs.Graph as graph
 use Rattle.rules.specs.Exits.{Place, edges, laidBlock, bridgeFor, bridgeOf, newAfter, nextIn, layPart, bridges}
 use Rattle.records.specs.Tables.{optional}
 use Rattle.records.proofs.StandLaws.{optional-some}
-use Rattle.exits.specs.Lays.{nextAt, leaveAt, newTo, laidAt, laidTo, layAt}
+use Rattle.exits.specs.Lays.{nextAt, layAt}
+use Rattle.exits.proofs.Steps.{leaveAt, newTo, laidAt, laidTo}
 
 module _ (at : ℕ → graph.Block) (g : graph.Graph) (o : List ℕ) (split : ℕ) where
   -- l stands from place i on, is a part, and its blocks are those of g

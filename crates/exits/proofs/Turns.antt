@@ -1,4 +1,4 @@
--- What one turn of `lay_blocks` does to the tables, as its calls say it. Assumes nothing.
+-- What one turn of `lay` does to the tables, as its calls say it. Assumes nothing.
 use Prim.Native.Nat.{ℕ, suc, _+_, _≤_, _<_}
 use native.Mathlib.Omega.{arith}
 use mathlib.Core.Path.{_≡_, refl, sym, ap, _∙_, subst}
@@ -15,7 +15,8 @@ use Rattle.records.specs.declared.Arms.{Arms}
 use Rattle.records.specs.declared.Order.{Order}
 use Rattle.records.specs.Tables.{armAt, armsFrom, leaves, blockAt, blockTables, onlyArms, armTables, inOrder, optional}
 use Rattle.records.proofs.TableLaws.{arms-kept, leaves-count}
-use Rattle.exits.specs.Lays.{leavingOf, goesTo, Below, bridgeArm, nextAt, leaveAt, Orderly, at, Laying}
+use Rattle.exits.specs.Lays.{leavingOf, goesTo, Below, bridgeArm, nextAt, Orderly}
+use Rattle.exits.proofs.Steps.{leaveAt, at, Laying}
 use Rattle.exits.proofs.Decisions.{leaving-is}
 use Rattle.exits.proofs.Laying.{Within2, bridge-below, bridge-some, n-low, room-new, room-place, room-arm, plain-turn, bridge-turn}
 

@@ -1,4 +1,4 @@
--- An order laid step by step, and the places that the tables have.
+-- How a block is left, by the tables; an order that can be laid, and the places that the tables then have.
 use Prim.Native.Nat.{ℕ, zero, suc, _+_, _≤_, _<_}
 use mathlib.Core.Path.{_≡_}
 use mathlib.Core.Bool.{Bool, true, false, cond, _||_}
@@ -11,15 +11,15 @@ use Rattle.rules.specs.declared.Leaving.{Leaving}
 use Rattle.rules.specs.declared.Leaving.the-variants.{Nothing, Jump, Branch, Exchanged, Bridge}
 use Rattle.rules.specs.Lists.{pick}
 use Rattle.rules.specs.Graph as graph
-use Rattle.rules.specs.Exits.{Place, indirect, edges, laidBlock, bridgeOf, newAfter, layPart, bridges, laidGraph}
+use Rattle.rules.specs.Exits.{Place, indirect, layPart, bridges, laidGraph}
 use Rattle.rules.specs.Within.{armTotal}
 use Rattle.rules.proofs.Membership.{In}
 use Rattle.records.specs.declared.Blocks.{Blocks}
 use Rattle.records.specs.declared.Arms.{Arms}
 use Rattle.records.specs.declared.Graph.{Graph}
 use Rattle.records.specs.declared.Order.{Order}
-use Rattle.records.specs.Tables.{armAt, optional, blockAt, tabled, BlocksSized, ArmsSized, ArmsWithin, Stands, inOrder}
-use Rattle.exits.specs.declared.Laid.{Laid}
+use Rattle.records.specs.Tables.{armAt, optional, blockAt, tabled, ArmsSized, ArmsWithin, Stands, inOrder}
+use Rattle.exits.specs.declared.Counts.{Counts}
 
 -- ---- the decision, by the few things that decide it: the end, how many arms there are, and whether the first and the second go
 -- to the next block
@@ -65,34 +65,11 @@ bridgeArm (Bridge i) = i
 abbrev pub Below : ℕ → Arms → Arms → Type 0
 Below q a b = (x : ℕ) → x < q → armAt a x ≡ armAt b x
 
--- ---- the steps
+-- ---- an order
 
 -- the next block of the part that place i of an order is in: a part ends at the split and at the order's end
 unfoldable pub nextAt : List ℕ → ℕ → ℕ → Option ℕ
 nextAt o split i = cond (eqb (suc i) split) none (cond (ltb (suc i) (length o)) (optional (getD o (suc i) 0)) none)
-
--- the blocks are found by `at`
-module _ (at : ℕ → graph.Block) (o : List ℕ) (split : ℕ) where
-  -- how the block at place i of the order is left
-  unfoldable pub leaveAt : ℕ → Leaving
-  leaveAt i = let b = at (getD o i 0) in edges (nextAt o split i) (b .end) (b .arms)
-
-  -- the number that a bridge made at place i gets
-  unfoldable pub newTo : ℕ → ℕ
-  unfolding newAfter leaveAt
-  newTo zero = numbers
-  newTo (suc i) = newAfter (newTo i) (leaveAt i)
-
-  -- what is laid at place i of the order: its block, and the bridge if one is made
-  unfoldable pub laidAt : ℕ → List Place
-  unfolding laidBlock bridgeOf leaveAt newTo
-  laidAt i = let b = at (getD o i 0) in laidBlock (newTo i) b (leaveAt i) ∷ bridgeOf (newTo i) (leb split i) b (leaveAt i)
-
-  -- the first i blocks of the order, laid
-  unfoldable pub laidTo : ℕ → List Place
-  unfolding laidAt
-  laidTo zero = []
-  laidTo (suc i) = laidTo i ++ laidAt i
 
 -- ---- the places of the tables
 
@@ -115,33 +92,6 @@ pub record Orderly (count o : List ℕ) : Type 0 where
   pub low : (i : ℕ) → i < length o → getD o i 0 < numbers
   pub once : (i j : ℕ) → i < length o → j < length o → getD o i 0 ≡ getD o j 0 → i ≡ j
   pub total : armsTo count o (length o) ≤ mostArms
-
--- p places and q arms are in the tables
-pub record Placed (b : Blocks) (a : Arms) (e : List ℕ) (p q : ℕ) : Type 0 where
-  pub back : (x : ℕ) → x < p → getD (b .place) (getD (b .listed) x 0) 0 ≡ suc x
-  pub within : ArmsWithin a q
-  pub blocks-sized : BlocksSized b
-  pub arms-sized : ArmsSized a
-  pub exits-sized : length e ≡ blocks
-
--- the block of the tables with this number
-abbrev pub at : Blocks → Arms → ℕ → graph.Block
-at b a n = blockAt b a n
-
--- of the order o, split here, i blocks and k bridges are laid; b₀ and a₀ are the tables that it is laid from
-pub record Laying (b₀ : Blocks) (a₀ : Arms) (o : List ℕ) (split : ℕ) (b : Blocks) (a : Arms) (e : List ℕ) (p q k i : ℕ) : Type 0 where
-  pub placed : Placed b a e p q
-  pub places : placesTo b a e p ≡ laidTo (at b₀ a₀) o split i
-  pub p-is : p ≡ i + k
-  pub few : k ≤ i
-  pub within : i ≤ length o
-  pub new-is : newTo (at b₀ a₀) o split i ≡ numbers + k
-  pub q-is : q ≡ armsTo (a₀ .count) o i + k
-  pub unlaid : (j : ℕ) → i ≤ j → j < length o → getD (b .place) (getD o j 0) 0 ≡ 0
-  pub spare : (m : ℕ) → numbers + k ≤ m → getD (b .place) m 0 ≡ 0
-  pub marks : (m : ℕ) → m < numbers → getD (b .marks) m 0 ≡ getD (b₀ .marks) m 0
-  pub ends : (m : ℕ) → m < numbers → getD (b .ends) m 0 ≡ getD (b₀ .ends) m 0
-  pub weight : (m : ℕ) → m < numbers → getD (b .weight) m 0 ≡ getD (b₀ .weight) m 0
 
 -- ---- the whole
 
@@ -175,15 +125,24 @@ pub record Layable (marks ends weight : List ℕ) (a : Arms) (o : Order) (split 
   pub over : Over tables marks ends weight a
   pub fits : Fits tables o split
 
--- what the tables of a laid order hold
-pub record LaidOf (g : graph.Graph) (o : List ℕ) (split : ℕ) (r : Laid) : Type 0 where
-  pub places : placesTo (r .graph .b) (r .graph .a) (r .exits) (r .graph .blocks) ≡ layAt g o split
-  pub stands : Stands blocks arms (r .graph) (laidGraph (layAt g o split))
-  pub bridged : r .bridges ≡ bridges (layAt g o split)
-  pub total : r .graph .arms ≡ armTotal (laidGraph (layAt g o split))
-  pub few-arms : r .graph .arms ≤ arms
-  pub exits-sized : length (r .exits) ≡ blocks
+-- no block is placed in these tables yet, and no arm
+pub record Unlaid (listed place exits : List ℕ) (a : Arms) : Type 0 where
+  pub listed-sized : length listed ≡ blocks
+  pub place-sized : length place ≡ blocks
+  pub exits-sized : length exits ≡ blocks
+  pub arms-sized : ArmsSized a
+  pub unplaced : (n : ℕ) → getD place n 0 ≡ 0
+  pub no-arms : ArmsWithin a 0
 
--- of every such graph it holds what is laid
-abbrev pub Lays : List ℕ → List ℕ → List ℕ → Arms → Order → ℕ → Laid → Type 0
-Lays marks ends weight a o split r = (t : Graph) → Over t marks ends weight a → Fits t o split → LaidOf (tabled t) (inOrder o) split r
+-- what the tables of a laid order hold
+pub record LaidOf (g : graph.Graph) (o : List ℕ) (split : ℕ) (b : Blocks) (a : Arms) (exits : List ℕ) (r : Counts) : Type 0 where
+  pub places : placesTo b a exits (r .places) ≡ layAt g o split
+  pub stands : Stands blocks arms (record { blocks = r .places; arms = r .arms; b = b; a = a }) (laidGraph (layAt g o split))
+  pub bridged : r .bridges ≡ bridges (layAt g o split)
+  pub total : r .arms ≡ armTotal (laidGraph (layAt g o split))
+  pub few-arms : r .arms ≤ arms
+  pub exits-sized : length exits ≡ blocks
+
+-- of every such graph they hold what is laid: b, c and exits are the tables then, of which r counts so much
+abbrev pub Lays : List ℕ → List ℕ → List ℕ → Arms → Order → ℕ → Blocks → Arms → List ℕ → Counts → Type 0
+Lays marks ends weight a o split b c exits r = (t : Graph) → Over t marks ends weight a → Fits t o split → LaidOf (tabled t) (inOrder o) split b c exits r

@@ -2,21 +2,17 @@
 use limits::ARMS;
 use limits::BLOCKS;
 use limits::NUMBERS;
-use records::Arms;
-use records::Blocks;
-use records::Graph;
 use records::Order;
 use rules::Leaving;
 ghost use mathlib.Core.Path.{_≡_};
 ghost use mathlib.Core.Bool.{cond};
-ghost use mathlib.Core.List.{[]};
 ghost use Prim.Native.Nat.{_+_, _≤_, _<_};
 ghost use lib.ListN.{length, getD, set, take};
-ghost use Rattle.limits.specs.Limits.{numbers, blocks, arms};
+ghost use Rattle.limits.specs.Limits.{blocks, arms};
 ghost use Rattle.rules.specs.declared.Leaving.the-variants.{Exchanged};
 ghost use Rattle.rules.specs.Exits.{indirect, exitOf, armsLeft};
-ghost use Rattle.records.specs.Tables.{armsFrom, onlyBlocks, blockTables, onlyArms, armTables, ArmsSized, ArmsWithin, inOrder, optional};
-ghost use Rattle.exits.specs.Lays.{leavingOf, goesTo, sourceOf, bridgedAt, bridgeArm, Below, nextAt, Orderly, Laying, Layable, Lays};
+ghost use Rattle.records.specs.Tables.{armsFrom, blockTables, onlyArms, armTables, optional};
+ghost use Rattle.exits.specs.Lays.{leavingOf, goesTo, sourceOf, bridgedAt, bridgeArm, Below, nextAt, Layable, Unlaid, Lays};
 
 // How a block is left, with its exit digit.
 pub struct Exit {
@@ -29,13 +25,6 @@ fn leaves_indirectly(end: u8) -> bool
     ensures { λ r. ⌜ r ≡ indirect end ⌝ }
 {
     if end < 3 { false } else { end < 5 }
-}
-
-// The laid graph with its bridges, the exit digit of each block by number, and how many bridges there are.
-pub struct Laid {
-    pub graph: Graph,
-    pub exits: [u8; BLOCKS],
-    pub bridges: usize,
 }
 
 // A block that goes to one place, which either follows it or has to be jumped to.
@@ -326,15 +315,16 @@ fn put_bridge(
     weight[k] = w;
 }
 
-// How much of the tables an order takes as it is laid.
-struct Counts {
-    places: usize,
-    arms: usize,
-    bridges: usize,
+// How many places, arms and bridges there are in what is laid.
+pub struct Counts {
+    pub places: usize,
+    pub arms: usize,
+    pub bridges: usize,
 }
 
-// The blocks of the order, each with its bridge behind it, laid into tables that are empty but for marks, ends and weights.
-fn lay_blocks<'a>(
+// The order as it is laid, its cold part from place `split` on (BLOCKS: there is none): its blocks, each with its bridge
+// behind it. Marks, ends and weights stay in their tables, the bridges' with them; the other tables are filled from empty.
+pub fn lay<'a>(
     ofirst: &'a [u16; BLOCKS],
     ocount: &'a [u16; BLOCKS],
     oto: &'a [u16; ARMS],
@@ -354,9 +344,9 @@ fn lay_blocks<'a>(
     args: &mut [u8; ARMS],
     heft: &mut [u64; ARMS],
 ) -> Counts
-    requires { ⌜ (o .len ≤ numbers) × (length (o .block) ≡ blocks) × ArmsSized (armTables (now ofirst) (now ocount) (now oto) (now oargs) (now oheft)) × ArmsWithin (armTables (now ofirst) (now ocount) (now oto) (now oargs) (now oheft)) arms × Orderly (now ocount) (inOrder o) ⌝ }
-    requires { ⌜ Laying (onlyBlocks [] (now marks) (now ends) (now weight)) (armTables (now ofirst) (now ocount) (now oto) (now oargs) (now oheft)) (inOrder o) split (blockTables (now place) (now listed) (now marks) (now ends) (now weight)) (armTables (now first) (now count) (now to) (now args) (now heft)) (now exits) 0 0 0 0 ⌝ }
-    ensures { λ r. ⌜ Laying (onlyBlocks [] (now (marks .entry)) (now (ends .entry)) (now (weight .entry))) (armTables (now (ofirst .entry)) (now (ocount .entry)) (now (oto .entry)) (now (oargs .entry)) (now (oheft .entry))) (inOrder o) split (blockTables (now (place .exit)) (now (listed .exit)) (now (marks .exit)) (now (ends .exit)) (now (weight .exit))) (armTables (now (first .exit)) (now (count .exit)) (now (to .exit)) (now (args .exit)) (now (heft .exit))) (now (exits .exit)) (r .places) (r .arms) (r .bridges) (o .len) ⌝ }
+    requires { ⌜ Layable (now marks) (now ends) (now weight) (armTables (now ofirst) (now ocount) (now oto) (now oargs) (now oheft)) o split ⌝ }
+    requires { ⌜ Unlaid (now listed) (now place) (now exits) (armTables (now first) (now count) (now to) (now args) (now heft)) ⌝ }
+    ensures { λ r. ⌜ Lays (now (marks .entry)) (now (ends .entry)) (now (weight .entry)) (armTables (now (ofirst .entry)) (now (ocount .entry)) (now (oto .entry)) (now (oargs .entry)) (now (oheft .entry))) o split (blockTables (now (place .exit)) (now (listed .exit)) (now (marks .exit)) (now (ends .exit)) (now (weight .exit))) (armTables (now (first .exit)) (now (count .exit)) (now (to .exit)) (now (args .exit)) (now (heft .exit))) (now (exits .exit)) r ⌝ }
 {
     let mut p: usize = 0;
     let mut q: usize = 0;
@@ -392,74 +382,5 @@ fn lay_blocks<'a>(
         places: p,
         arms: q,
         bridges: k,
-    }
-}
-
-// The order as it is laid, its cold part from place `split` on (BLOCKS: there is none). The blocks' own tables come by value:
-// what is laid keeps them, with its bridges' entries behind.
-pub fn lay<'a>(
-    mut marks: [u8; BLOCKS],
-    mut ends: [u8; BLOCKS],
-    mut weight: [u64; BLOCKS],
-    ofirst: &'a [u16; BLOCKS],
-    ocount: &'a [u16; BLOCKS],
-    oto: &'a [u16; ARMS],
-    oargs: &'a [u8; ARMS],
-    oheft: &'a [u64; ARMS],
-    o: Order,
-    split: usize,
-) -> Laid
-    requires { ⌜ Layable marks ends weight (armTables (now ofirst) (now ocount) (now oto) (now oargs) (now oheft)) o split ⌝ }
-    ensures { λ r. ⌜ Lays marks ends weight (armTables (now (ofirst .entry)) (now (ocount .entry)) (now (oto .entry)) (now (oargs .entry)) (now (oheft .entry))) o split r ⌝ }
-{
-    let mut listed: [u16; BLOCKS] = [0; BLOCKS];
-    let mut place: [u16; BLOCKS] = [0; BLOCKS];
-    let mut first: [u16; BLOCKS] = [0; BLOCKS];
-    let mut count: [u16; BLOCKS] = [0; BLOCKS];
-    let mut exits: [u8; BLOCKS] = [0; BLOCKS];
-    let mut to: [u16; ARMS] = [0; ARMS];
-    let mut args: [u8; ARMS] = [0; ARMS];
-    let mut heft: [u64; ARMS] = [0; ARMS];
-    let n = lay_blocks(
-        ofirst,
-        ocount,
-        oto,
-        oargs,
-        oheft,
-        o,
-        split,
-        &mut listed,
-        &mut place,
-        &mut marks,
-        &mut ends,
-        &mut weight,
-        &mut first,
-        &mut count,
-        &mut exits,
-        &mut to,
-        &mut args,
-        &mut heft,
-    );
-    Laid {
-        graph: Graph {
-            blocks: n.places,
-            arms: n.arms,
-            b: Blocks {
-                place,
-                listed,
-                marks,
-                ends,
-                weight,
-            },
-            a: Arms {
-                first,
-                count,
-                to,
-                args,
-                weight: heft,
-            },
-        },
-        exits,
-        bridges: n.bridges,
     }
 }

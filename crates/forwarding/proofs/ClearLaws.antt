@@ -17,11 +17,28 @@ use Rattle.rules.specs.Forward.{entered, clearedBlock}
 use Rattle.rules.proofs.Membership.{pick-ind, map-append}
 use Rattle.records.specs.declared.Blocks.{Blocks}
 use Rattle.records.specs.declared.Arms.{Arms}
+use Rattle.records.specs.declared.Graph.{Graph}
 use Rattle.records.specs.Tables.{armAt, armsFrom, leaves, blockAt, upTo, optional}
-use Rattle.forwarding.specs.Steps.{uselessOf, deadOf, Cleared, clearOf, clearsOf, clearable, blocksWith, armsWith}
+use Rattle.forwarding.specs.Steps.{uselessOf, deadOf, Cleared, clearOf, clearsOf}
 use Rattle.forwarding.proofs.StepLaws.{set-case}
 use Rattle.forwarding.proofs.ArmMoves.{arms-same}
 use Rattle.forwarding.proofs.BlockMoves.{upTo-same}
+
+-- ---- the state as it is cleared
+
+unfoldable pub clearable : Blocks → Arms → Cleared
+clearable b a = record { marks = b .marks; weight = b .weight; count = a .count }
+
+unfoldable pub blocksWith : Blocks → Cleared → Blocks
+blocksWith b s = record { place = b .place; listed = b .listed; marks = s .marks; ends = b .ends; weight = s .weight }
+
+unfoldable pub armsWith : Arms → Cleared → Arms
+armsWith a s = record { first = a .first; count = s .count; to = a .to; args = a .args; weight = a .weight }
+
+unfoldable pub cleared : List ℕ → List ℕ → Graph → Graph
+cleared onward reached g =
+    let s = clearsOf onward reached (g .b .listed) (clearable (g .b) (g .a)) (g .blocks) in
+    record { blocks = g .blocks; arms = g .arms; b = blocksWith (g .b) s; a = armsWith (g .a) s }
 
 -- ---- the rule, by the numbers that the code asks
 bare : graph.Block → graph.Block

@@ -1,7 +1,7 @@
 -- The passes, one after the other, are document 01's "Forward". Assumes nothing.
 use Prim.Native.Nat.{ℕ, zero, suc, _+_, _≤_, _<_}
 use native.Mathlib.Omega.{arith}
-use mathlib.Core.Path.{_≡_, refl, sym, ap, ap₂, _∙_, subst}
+use mathlib.Core.Path.{_≡_, refl, sym, ap, _∙_, subst}
 use mathlib.Core.Bool.{not}
 use mathlib.Core.Logic.{inl, inr}
 use mathlib.Core.List.{List, map}
@@ -19,15 +19,14 @@ use Rattle.records.specs.declared.Arms.{Arms}
 use Rattle.records.specs.declared.Graph.{Graph}
 use Rattle.records.specs.Tables.{Has, Apart, armAt, armsFrom, leaves, blockAt, upTo, tabled, optional, Stands}
 use Rattle.records.proofs.StandLaws.{listed-in, in-listed, find-listed}
-use Rattle.forwarding.specs.declared.Forwarded.{Forwarded}
-use Rattle.forwarding.specs.Forwards.{Forwards}
-use Rattle.forwarding.specs.Steps.{goalsOf, turnsOf, movedOf, reachedOf, clearable, blocksWith, armsWith, cleared, Safe, FirstIn, Sure}
+use Rattle.forwarding.specs.Forwards.{changed, Forwarded}
+use Rattle.forwarding.specs.Steps.{goalsOf, turnsOf, movedOf, reachedOf, Cleared, clearing, clearsOf, Safe, FirstIn, Sure}
 use Rattle.forwarding.proofs.StepLaws.{turns-small}
 use Rattle.forwarding.proofs.GoalLaws.{fOf, small, safe, goal-is, goals-get}
 use Rattle.forwarding.proofs.ArmMoves.{withTo}
 use Rattle.forwarding.proofs.BlockMoves.{turns-sized, all-turned, all-counted}
 use Rattle.forwarding.proofs.ReachLaws.{entered-is}
-use Rattle.forwarding.proofs.ClearLaws.{Long, fewer, clears-long, all-cleared}
+use Rattle.forwarding.proofs.ClearLaws.{clearable, blocksWith, armsWith, cleared, Long, fewer, clears-long, all-cleared}
 
 arm-in : (a : Arms) (n f q : ℕ) → f ≤ q → q < f + n → In (armAt a q) (armsFrom a f n)
 unfolding armsFrom
@@ -172,12 +171,8 @@ module _ (t : Graph) (st : Stands numbers mostArms t (tabled t)) (whole : Whole 
                   };
             }
 
-        same-blocks : r .blocks ≡ n
-        unfolding cleared
-        same-blocks = refl
-
-        pub forwards : Forwards t (record { graph = r; moved = movedOf onward (b .listed) (b .ends) (a .first) (a .count) (a .to) n })
-        forwards = record { stands = is-standing; moved = moved-count; apart = is-apart; blocks = same-blocks }
+        pub forwards : Forwarded t r (movedOf onward (b .listed) (b .ends) (a .first) (a .count) (a .to) n)
+        forwards = record { stands = is-standing; moved-is = moved-count; apart = is-apart }
 
   -- the goals that the code finds
   pub goals-found : (s : List ℕ) → length s ≡ blocks → (i : ℕ) → i < n → goal (tabled t) (k i) ≡ optional (getD (goalsOf (fOf b a) (b .listed) n s n) (k i) 0)
@@ -186,17 +181,23 @@ module _ (t : Graph) (st : Stands numbers mostArms t (tabled t)) (whole : Whole 
       goal-is t st whole (k i) (listed-in b a i n l)
       ∙ ap optional (sym (goals-get (fOf b a) (b .listed) n s sized n below i l))
 
+-- the tables that are left, by what clearing makes of three of them
+changed-is : (t : Graph) (onward reached to marks weight count : List ℕ) → clearing marks weight count ≡ clearsOf onward reached (t .b .listed) (clearing (t .b .marks) (t .b .weight) (t .a .count)) (t .blocks)
+    → changed t marks weight count to ≡ cleared onward reached (record { blocks = t .blocks; arms = t .arms; b = t .b; a = withTo (t .a) to })
+unfolding cleared clearable blocksWith armsWith
+changed-is t onward reached to marks weight count e = ap (λ (s : Cleared). changed t (s .marks) (s .weight) (s .count) to) e
+
 -- what the passes leave is what document 01 asks for
 pub all-passes : (t : Graph) (st : Stands numbers mostArms t (tabled t)) (whole : Whole (tabled t)) → Apart t
-    → (s onward to reached : List ℕ) (r : Graph) (moved : ℕ)
+    → (s onward to reached marks weight count : List ℕ) (moved : ℕ)
     → length s ≡ blocks
     → onward ≡ goalsOf (fOf (t .b) (t .a)) (t .b .listed) (t .blocks) s (t .blocks)
     → to ≡ turnsOf onward (t .b .listed) (t .b .ends) (t .a .first) (t .a .count) (t .a .to) (t .blocks)
     → moved ≡ movedOf onward (t .b .listed) (t .b .ends) (t .a .first) (t .a .count) (t .a .to) (t .blocks)
     → reached ≡ reachedOf (t .b .listed) (t .a .first) (t .a .count) to (replicate blocks 0) (t .blocks)
-    → r ≡ cleared onward reached (record { blocks = t .blocks; arms = t .arms; b = t .b; a = withTo (t .a) to })
-    → Forwards t (record { graph = r; moved = moved })
-all-passes t st whole apart s onward to reached r moved sized eo et em er eg =
+    → clearing marks weight count ≡ clearsOf onward reached (t .b .listed) (clearing (t .b .marks) (t .b .weight) (t .a .count)) (t .blocks)
+    → Forwarded t (changed t marks weight count to) moved
+all-passes t st whole apart s onward to reached marks weight count moved sized eo et em er eg =
     let to′ = turnsOf onward (t .b .listed) (t .b .ends) (t .a .first) (t .a .count) (t .a .to) (t .blocks) in
     let known : (i : ℕ) → i < t .blocks → goal (tabled t) (getD (t .b .listed) i 0) ≡ optional (getD onward (getD (t .b .listed) i 0) 0) =
     λ i l. goals-found t st whole s sized i l ∙ ap (λ (x : List ℕ). optional (getD x (getD (t .b .listed) i 0) 0)) (sym eo) in
@@ -204,6 +205,6 @@ all-passes t st whole apart s onward to reached r moved sized eo et em er eg =
     er ∙ ap (λ (x : List ℕ). reachedOf (t .b .listed) (t .a .first) (t .a .count) x (replicate blocks 0) (t .blocks)) et in
     let in-to : (x : ℕ) → entered (upTo (t .b) (withTo (t .a) to′) (t .blocks)) x ≡ not (eqb (getD reached x 0) 0) =
     λ x. entered-is (t .b) (withTo (t .a) to′) (t .blocks) (sure-moved t st whole onward) x ∙ ap (λ (l : List ℕ). not (eqb (getD l x 0) 0)) (sym again) in
-    let graph : r ≡ cleared onward reached (record { blocks = t .blocks; arms = t .arms; b = t .b; a = withTo (t .a) to′ }) =
-    eg ∙ ap (λ (x : List ℕ). cleared onward reached (record { blocks = t .blocks; arms = t .arms; b = t .b; a = withTo (t .a) x })) et in
-    subst (λ (x : Forwarded). Forwards t x) (sym (ap₂ (λ (x : Graph) (y : ℕ). record { graph = x; moved = y }) graph em)) (forwards t st whole onward known apart reached in-to)
+    let graph = ap (changed t marks weight count) et ∙ changed-is t onward reached to′ marks weight count eg in
+    subst (λ (x : Graph). Forwarded t x moved) (sym graph)
+    (subst (Forwarded t (cleared onward reached (record { blocks = t .blocks; arms = t .arms; b = t .b; a = withTo (t .a) to′ }))) (sym em) (forwards t st whole onward known apart reached in-to))

@@ -6,3 +6,4 @@ pub mod BlockMoves
 pub mod ReachLaws
 pub mod ClearLaws
 pub mod ForwardLaws
+pub mod LentLaws

@@ -7,9 +7,6 @@ use lib.Dec.{eqb, leb, ltb}
 use lib.ListN.{getD, set}
 use Rattle.limits.specs.Limits.{blocks, arms}
 use Rattle.rules.specs.Lists.{pick}
-use Rattle.records.specs.declared.Blocks.{Blocks}
-use Rattle.records.specs.declared.Arms.{Arms}
-use Rattle.records.specs.declared.Graph.{Graph}
 use Rattle.rules.specs.Graph.{isEntry, isDead, hasParameters, isNamed, isAddressed}
 
 -- ---- blocks by the few numbers that decide
@@ -125,6 +122,9 @@ pub record Cleared : Type 0 where
   pub weight : List ℕ
   pub count : List ℕ
 
+abbrev pub clearing : List ℕ → List ℕ → List ℕ → Cleared
+clearing marks weight count = record { marks = marks; weight = weight; count = count }
+
 unfoldable pub clearOf : List ℕ → List ℕ → ℕ → Cleared → Cleared
 clearOf onward reached k s =
     pick (uselessOf (getD onward k 0) (getD reached k 0) (getD (s .marks) k 0))
@@ -148,19 +148,3 @@ pub record Sure (listed first count to : List ℕ) (n : ℕ) : Type 0 where
   pub below : (i : ℕ) → i < n → getD listed i 0 < blocks
   pub fits : (k : ℕ) → getD first k 0 + getD count k 0 ≤ arms
   pub leads : (i : ℕ) → i < n → (q : ℕ) → q < getD count (getD listed i 0) 0 → getD to (getD first (getD listed i 0) 0 + q) 0 < blocks
-
--- ---- the state as it is cleared
-
-unfoldable pub clearable : Blocks → Arms → Cleared
-clearable b a = record { marks = b .marks; weight = b .weight; count = a .count }
-
-unfoldable pub blocksWith : Blocks → Cleared → Blocks
-blocksWith b s = record { place = b .place; listed = b .listed; marks = s .marks; ends = b .ends; weight = s .weight }
-
-unfoldable pub armsWith : Arms → Cleared → Arms
-armsWith a s = record { first = a .first; count = s .count; to = a .to; args = a .args; weight = a .weight }
-
-unfoldable pub cleared : List ℕ → List ℕ → Graph → Graph
-cleared onward reached g =
-    let s = clearsOf onward reached (g .b .listed) (clearable (g .b) (g .a)) (g .blocks) in
-    record { blocks = g .blocks; arms = g .arms; b = blocksWith (g .b) s; a = armsWith (g .a) s }

@@ -1,23 +1,14 @@
 // Arms to blocks that only pass control on go where those lead.
 use limits::ARMS;
 use limits::BLOCKS;
-use records::Graph;
 use records::faults;
 ghost use mathlib.Core.Path.{_≡_};
 ghost use Prim.Native.Nat.{ℕ, suc, _+_, _≤_, _<_};
-ghost use lib.ListN.{length, getD};
-ghost use Rattle.limits.specs.Limits.{numbers, mostArms, blocks, arms};
+ghost use lib.ListN.{getD};
+ghost use Rattle.limits.specs.Limits.{blocks, arms};
 ghost use Rattle.rules.specs.Graph.{isDead, hasParameters, isNamed, isAddressed};
-ghost use Rattle.rules.proofs.Wholeness.{Whole};
-ghost use Rattle.records.specs.Tables.{tabled, Apart, Stands};
-ghost use Rattle.forwarding.specs.Forwards.{Forwards};
-ghost use Rattle.forwarding.specs.Steps.{oursOf, plain, passing, throughOf, chain, Safe, goalOf, goalsOf, goesTo, hopOf, differ, turnedOf, turnOf, moveOf, turnsOf, movedOf, reachOf, reachedOf, uselessOf, deadOf, cleared, FirstIn, Sure};
-
-// The graph with its arms moved, and how many moved.
-pub struct Forwarded {
-    pub graph: Graph,
-    pub moved: usize,
-}
+ghost use Rattle.forwarding.specs.Forwards.{Forwardable, Forwards};
+ghost use Rattle.forwarding.specs.Steps.{oursOf, plain, passing, throughOf, chain, Safe, goalOf, goalsOf, goesTo, hopOf, differ, turnOf, moveOf, turnsOf, movedOf, reachOf, reachedOf, uselessOf, deadOf, clearing, clearsOf, FirstIn, Sure};
 
 // ---- tables
 
@@ -356,66 +347,52 @@ fn dead(marks: u8) -> u8
     if is_dead(marks) { marks } else { marks + 4 }
 }
 
-// The listed blocks that are of no use any more become dead ends without arms, and weigh nothing.
-fn clear(g: Graph, onward: &[u16; BLOCKS], reached: &[u8; BLOCKS]) -> Graph
-    requires { ⌜ (g .blocks ≤ blocks) × ((i : ℕ) → i < g .blocks → getD (g .b .listed) i 0 < blocks) ⌝ }
-    ensures { λ r. ⌜ r ≡ cleared (now (onward .entry)) (now (reached .entry)) g ⌝ }
+// The n listed blocks that are of no use any more become dead ends without arms, and weigh nothing.
+fn clear<'a>(
+    listed: &'a [u16; BLOCKS],
+    onward: &'a [u16; BLOCKS],
+    reached: &'a [u8; BLOCKS],
+    n: usize,
+    marks: &mut [u8; BLOCKS],
+    weight: &mut [u64; BLOCKS],
+    count: &mut [u16; BLOCKS],
+)
+    requires { ⌜ (n ≤ blocks) × ((i : ℕ) → i < n → getD (now listed) i 0 < blocks) ⌝ }
+    ensures { λ _. ⌜ clearing (now (marks .exit)) (now (weight .exit)) (now (count .exit)) ≡ clearsOf (now (onward .entry)) (now (reached .entry)) (now (listed .entry)) (clearing (now (marks .entry)) (now (weight .entry)) (now (count .entry))) n ⌝ }
 {
-    let n = g.blocks;
-    let mut b = g.b;
-    let mut a = g.a;
     let mut i: usize = 0;
     while i < n {
-        let k = lists::wide(b.listed[i]);
-        if useless(at_block(onward, k), reached[k], b.marks[k]) {
-            b.marks[k] = dead(b.marks[k]);
-            b.weight[k] = 0;
-            a.count[k] = 0;
+        let k = at_block(listed, i);
+        if useless(at_block(onward, k), reached[k], marks[k]) {
+            marks[k] = dead(marks[k]);
+            weight[k] = 0;
+            count[k] = 0;
         }
         i = i + 1;
     }
-    Graph {
-        blocks: n,
-        arms: g.arms,
-        b,
-        a,
-    }
 }
 
-// Goals are fixed first, then the arms move; last, what no arm goes to any more is cleared.
-pub fn forward(g: Graph) -> Forwarded
-    requires { ⌜ Stands numbers mostArms g (tabled g) × Whole (tabled g) × Apart g ⌝ }
-    ensures { λ r. ⌜ Forwards g r ⌝ }
+// Goals are fixed first, then the arms of the n listed blocks move; last, what no arm goes to any more is cleared. How many
+// arms moved.
+pub fn forward<'a>(
+    listed: &'a [u16; BLOCKS],
+    ends: &'a [u8; BLOCKS],
+    first: &'a [u16; BLOCKS],
+    args: &'a [u8; ARMS],
+    n: usize,
+    marks: &mut [u8; BLOCKS],
+    weight: &mut [u64; BLOCKS],
+    count: &mut [u16; BLOCKS],
+    to: &mut [u16; ARMS],
+) -> usize
+    requires { ⌜ Forwardable (now listed) (now marks) (now ends) (now weight) (now first) (now count) (now to) (now args) n ⌝ }
+    ensures { λ r. ⌜ Forwards (now (listed .entry)) (now (marks .entry)) (now (ends .entry)) (now (weight .entry)) (now (first .entry)) (now (count .entry)) (now (to .entry)) (now (args .entry)) n (now (marks .exit)) (now (weight .exit)) (now (count .exit)) (now (to .exit)) r ⌝ }
 {
-    let n = g.blocks;
-    let b = g.b;
-    let mut a = g.a;
-    let mut to = a.to;
     let mut onward = [BLOCKS as u16; BLOCKS];
-    goals(
-        &b.listed,
-        &b.ends,
-        &b.marks,
-        &a.first,
-        &a.count,
-        &a.to,
-        &a.args,
-        n,
-        &mut onward,
-    );
-    let moved = move_arms(&b.listed, &b.ends, &a.first, &a.count, &onward, n, &mut to);
+    goals(listed, ends, marks, first, count, to, args, n, &mut onward);
+    let moved = move_arms(listed, ends, first, count, &onward, n, to);
     let mut reached = [0u8; BLOCKS];
-    reach_all(&b.listed, &a.first, &a.count, &to, n, &mut reached);
-    a.to = to;
-    let graph = clear(
-        Graph {
-            blocks: n,
-            arms: g.arms,
-            b,
-            a,
-        },
-        &onward,
-        &reached,
-    );
-    Forwarded { graph, moved }
+    reach_all(listed, first, count, to, n, &mut reached);
+    clear(listed, &onward, &reached, n, marks, weight, count);
+    moved
 }

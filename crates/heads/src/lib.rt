@@ -4,18 +4,14 @@
 // so a head runs at least a hundredth as often as the hottest block.
 use limits::ARMS;
 use limits::BLOCKS;
-use records::Graph;
 ghost use mathlib.Core.Path.{_≡_};
 ghost use mathlib.Core.Bool.{false, _||_};
 ghost use Prim.Native.Nat.{ℕ, _+_, _≤_, _<_, max};
 ghost use lib.ListN.{length, getD};
 ghost use Rattle.limits.specs.Limits.{blocks, arms};
 ghost use Rattle.marks.specs.Sets.{room, member};
-ghost use Rattle.rules.specs.Heads.{headAt};
-ghost use Rattle.rules.specs.Within.{armTotal};
-ghost use Rattle.rules.proofs.Wholeness.{Whole};
-ghost use Rattle.records.specs.Tables.{tabled, Stands};
 ghost use Rattle.heads.specs.Heading.{hotTo, behind, armsBack, tables, backTo, heads, headTo, Enterable};
+ghost use Rattle.heads.specs.Lent.{LentPlaced, HeadsOver};
 
 // How many times less often than the hottest block a head may run.
 const ALIGN_THRESHOLD: u64 = 100;
@@ -143,34 +139,23 @@ fn mark_heads<'a>(
 }
 
 // The blocks that are heads in the listed order.
-pub fn heads(g: Graph) -> [u8; marks::ROOM]
-    requires { ⌜ Stands blocks arms g (tabled g) × Whole (tabled g) × (armTotal (tabled g) ≤ arms) ⌝ }
-    ensures { λ r. ⌜ (length r ≡ room) × ((i : ℕ) → i < g .blocks → member r (getD (g .b .listed) i 0) ≡ headAt (tabled g) i) ⌝ }
+pub fn heads<'a>(
+    listed: &'a [u16; BLOCKS],
+    place: &'a [u16; BLOCKS],
+    weight: &'a [u64; BLOCKS],
+    first: &'a [u16; BLOCKS],
+    count: &'a [u16; BLOCKS],
+    to: &'a [u16; ARMS],
+    n: usize,
+) -> [u8; marks::ROOM]
+    requires { ⌜ LentPlaced (now listed) (now place) (now weight) (now first) (now count) (now to) n ⌝ }
+    ensures { λ r. ⌜ (length r ≡ room) × HeadsOver (now (listed .entry)) (now (place .entry)) (now (weight .entry)) (now (first .entry)) (now (count .entry)) (now (to .entry)) n r ⌝ }
 {
-    let b = g.b;
-    let a = g.a;
-    let n = g.blocks;
-    let piece = cycles::cycles(&b.listed, &a.first, &a.count, &a.to, n);
+    let piece = cycles::cycles(listed, first, count, to, n);
     let mut back = marks::none();
-    mark_back(
-        &b.listed,
-        &b.place,
-        &a.first,
-        &a.count,
-        &a.to,
-        &piece,
-        n,
-        &mut back,
-    );
-    let hot = hottest(&b.listed, &b.weight, n);
+    mark_back(listed, place, first, count, to, &piece, n, &mut back);
+    let hot = hottest(listed, weight, n);
     let mut set = marks::none();
-    mark_heads(
-        &b.listed,
-        &b.weight,
-        &back,
-        n,
-        hot / ALIGN_THRESHOLD,
-        &mut set,
-    );
+    mark_heads(listed, weight, &back, n, hot / ALIGN_THRESHOLD, &mut set);
     set
 }

@@ -45,11 +45,6 @@ module _ (b : Blocks) (exits heads : List ℕ) (split : ℕ) where
       ∙ ap (λ (n : ℕ). (recordsTo b exits heads split i ++ ys) ++ drop n d) k
       ∙ ap (λ (l : List ℕ). l ++ drop (size * (i + 1)) d) m
 
-only-records : (b : Blocks) (exits heads : List ℕ) (split i : ℕ) → recordsTo (onlyBlocks (b .listed) (b .marks) (b .ends) (b .weight)) exits heads split i ≡ recordsTo b exits heads split i
-unfolding recordsTo recordOf
-only-records b exits heads split zero = refl
-only-records b exits heads split (suc i) = ap (λ (l : List ℕ). l ++ recordOf b exits heads split i) (only-records b exits heads split i)
-
 -- ---- by the rule
 places-append : (g : graph.Graph) (split i : ℕ) (s t : List Place) → placesBytes g split i (s ++ t) ≡ placesBytes g split i s ++ placesBytes g split (i + length s) t
 unfolding placesBytes
@@ -105,12 +100,15 @@ module _ (b : Blocks) (a : Arms) (exits heads : List ℕ) (split n : ℕ) (h : (
       )
 
   -- the places are written, and then the arms behind them
-  pub both-parts : (d o : List ℕ) → o ≡ recordsTo (onlyBlocks (b .listed) (b .marks) (b .ends) (b .weight)) exits heads split n ++ drop (size * n) d →
+  pub both-parts : (d o : List ℕ) → o ≡ recordsTo b exits heads split n ++ drop (size * n) d →
       behind (size * n) (armsBytes (upTo (onlyListed (b .listed)) a n)) o ≡ laidBytes split (placesTo b a exits n) ++ drop (length (laidBytes split (placesTo b a exits n))) d
   both-parts d o e =
-      ap₂ (behind (size * n)) (only-listed b a n) (e ∙ ap (λ (l : List ℕ). l ++ drop (size * n) d) (records-only n))
+      ap₂ (behind (size * n)) (only-listed b a n) e
       ∙ behind-front (recordsTo b exits heads split n) (armsBytes (upTo b a n)) d (size * n) (records-length b exits heads split n)
       ∙ ap (λ (l : List ℕ). l ++ drop (length l) d) (sym (laid-parts b a exits heads split n h))
-    where
-      records-only : (i : ℕ) → recordsTo (onlyBlocks (b .listed) (b .marks) (b .ends) (b .weight)) exits heads split i ≡ recordsTo b exits heads split i
-      records-only i = only-records b exits heads split i
+
+-- places are the same whatever table says where blocks stand
+pub only-places : (b : Blocks) (a : Arms) (exits : List ℕ) (p : ℕ) → placesTo (onlyBlocks (b .listed) (b .marks) (b .ends) (b .weight)) a exits p ≡ placesTo b a exits p
+unfolding placesTo placeAt blockAt
+only-places b a exits zero = refl
+only-places b a exits (suc p) = ap (λ (l : List Place). l ++ (placeAt b a exits (getD (b .listed) p 0) ∷ [])) (only-places b a exits p)

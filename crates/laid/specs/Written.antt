@@ -9,12 +9,10 @@ use Rattle.limits.specs.Limits.{size, numbers, marksBelow, blocks, arms}
 use Rattle.marks.specs.Sets.{room, member}
 use Rattle.rules.specs.Records.{fields}
 use Rattle.rules.specs.Within.{armTotal}
-use Rattle.rules.specs.Exits.{Place}
 use Rattle.rules.specs.Heads.{headAt}
 use Rattle.records.specs.declared.Blocks.{Blocks}
-use Rattle.records.specs.Tables.{tabled, Stands}
-use Rattle.exits.specs.declared.Laid.{Laid}
-use Rattle.exits.specs.Lays.{placesTo}
+use Rattle.records.specs.declared.Arms.{Arms}
+use Rattle.records.specs.Tables.{upTo, ArmsWithin}
 
 -- the record of place i; `split` is the place of the cold part's first block
 unfoldable pub recordOf : Blocks → List ℕ → List ℕ → ℕ → ℕ → List ℕ
@@ -32,19 +30,20 @@ recordsTo b exits heads split (suc i) = recordsTo b exits heads split i ++ recor
 abbrev pub Small : Blocks → ℕ → Type 0
 Small b n = (i : ℕ) → i < n → getD (b .marks) (getD (b .listed) i 0) 0 < marksBelow
 
--- the set has the heads of the laid graph
-pub record HeadsOf (l : Laid) (heads : List ℕ) : Type 0 where
+-- the set has the heads of the n blocks that are laid
+pub record HeadsOf (b : Blocks) (a : Arms) (n : ℕ) (heads : List ℕ) : Type 0 where
   pub sized : length heads ≡ room
-  pub are : (i : ℕ) → i < l .graph .blocks → member heads (getD (l .graph .b .listed) i 0) ≡ headAt (tabled (l .graph)) i
+  pub are : (i : ℕ) → i < n → member heads (getD (b .listed) i 0) ≡ headAt (upTo b a n) i
 
--- the places that the tables have
-abbrev pub placesOf : Laid → List Place
-placesOf l = placesTo (l .graph .b) (l .graph .a) (l .exits) (l .graph .blocks)
-
--- what is to be written, and room for it
-pub record Writable (l : Laid) (room : ℕ) : Type 0 where
-  pub stands : Stands blocks arms (l .graph) (tabled (l .graph))
-  pub exits-sized : length (l .exits) ≡ blocks
-  pub small : Small (l .graph .b) (l .graph .blocks)
-  pub total : l .graph .arms ≡ armTotal (tabled (l .graph))
-  pub fits : size * (l .graph .blocks + l .graph .arms) ≤ room
+-- n places can be written: an entry for each number, no arm past the tables' room, and room for the file
+pub record Writable (b : Blocks) (a : Arms) (exits : List ℕ) (n room : ℕ) : Type 0 where
+  pub few : n ≤ blocks
+  pub marks-sized : length (b .marks) ≡ blocks
+  pub ends-sized : length (b .ends) ≡ blocks
+  pub weight-sized : length (b .weight) ≡ blocks
+  pub exits-sized : length exits ≡ blocks
+  pub first-sized : length (a .first) ≡ blocks
+  pub count-sized : length (a .count) ≡ blocks
+  pub within : ArmsWithin a arms
+  pub small : Small b n
+  pub fits : size * (n + armTotal (upTo b a n)) ≤ room

@@ -1,5 +1,5 @@
 // A laid graph written as records: its places, then the arms of each in that order.
-use exits::Laid;
+use limits::ARMS;
 use limits::BLOCKS;
 use limits::MARKS;
 use limits::NUMBERS;
@@ -14,8 +14,9 @@ ghost use lib.ListN.{length, drop};
 ghost use Rattle.limits.specs.Limits.{size, numbers, marksBelow, blocks};
 ghost use Rattle.marks.specs.Sets.{room};
 ghost use Rattle.rules.specs.Laid.{laidBytes};
-ghost use Rattle.records.specs.Tables.{onlyBlocks};
-ghost use Rattle.laid.specs.Written.{recordsTo, Small, HeadsOf, Writable, placesOf};
+ghost use Rattle.records.specs.Tables.{onlyBlocks, armTables};
+ghost use Rattle.exits.specs.Lays.{placesTo};
+ghost use Rattle.laid.specs.Written.{recordsTo, Small, HeadsOf, Writable};
 
 // "kind 3 for a bridge": bridges are numbered past the blocks.
 fn kind(n: u16) -> u8
@@ -75,34 +76,25 @@ fn put_places<'a>(
 }
 
 // The file of what is laid, at the front of the room; the rest stays.
-pub fn write(l: Laid, heads: [u8; marks::ROOM], split: usize, out: &mut [u8])
-    requires { ⌜ HeadsOf l heads × Writable l (length (now out)) ⌝ }
-    ensures { λ _. ⌜ now (out .exit) ≡ laidBytes split (placesOf l) ++ drop (length (laidBytes split (placesOf l))) (now (out .entry)) ⌝ }
+pub fn write<'a>(
+    listed: &'a [u16; BLOCKS],
+    marks: &'a [u8; BLOCKS],
+    ends: &'a [u8; BLOCKS],
+    weight: &'a [u64; BLOCKS],
+    exits: &'a [u8; BLOCKS],
+    heads: &'a [u8; marks::ROOM],
+    first: &'a [u16; BLOCKS],
+    count: &'a [u16; BLOCKS],
+    to: &'a [u16; ARMS],
+    args: &'a [u8; ARMS],
+    heft: &'a [u64; ARMS],
+    n: usize,
+    split: usize,
+    out: &mut [u8],
+)
+    requires { ⌜ HeadsOf (onlyBlocks (now listed) (now marks) (now ends) (now weight)) (armTables (now first) (now count) (now to) (now args) (now heft)) n (now heads) × Writable (onlyBlocks (now listed) (now marks) (now ends) (now weight)) (armTables (now first) (now count) (now to) (now args) (now heft)) (now exits) n (length (now out)) ⌝ }
+    ensures { λ _. ⌜ now (out .exit) ≡ laidBytes split (placesTo (onlyBlocks (now (listed .entry)) (now (marks .entry)) (now (ends .entry)) (now (weight .entry))) (armTables (now (first .entry)) (now (count .entry)) (now (to .entry)) (now (args .entry)) (now (heft .entry))) (now (exits .entry)) n) ++ drop (length (laidBytes split (placesTo (onlyBlocks (now (listed .entry)) (now (marks .entry)) (now (ends .entry)) (now (weight .entry))) (armTables (now (first .entry)) (now (count .entry)) (now (to .entry)) (now (args .entry)) (now (heft .entry))) (now (exits .entry)) n))) (now (out .entry)) ⌝ }
 {
-    let g = l.graph;
-    let n = g.blocks;
-    let b = g.b;
-    let a = g.a;
-    let exits = l.exits;
-    put_places(
-        &b.listed,
-        &b.marks,
-        &b.ends,
-        &b.weight,
-        &exits,
-        &heads,
-        n,
-        split,
-        out,
-    );
-    writer::put_arms(
-        &b.listed,
-        &a.first,
-        &a.count,
-        &a.to,
-        &a.args,
-        &a.weight,
-        n,
-        out,
-    );
+    put_places(listed, marks, ends, weight, exits, heads, n, split, out);
+    writer::put_arms(listed, first, count, to, args, heft, n, out);
 }

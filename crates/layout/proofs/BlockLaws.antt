@@ -26,28 +26,24 @@ use Rattle.rules.proofs.Wholeness.{Whole, block-in}
 use Rattle.rules.proofs.Forwarded.{spread-whole}
 use Rattle.rules.proofs.PlainOnce.{plain-once}
 use Rattle.rules.proofs.Bounds.{readied-total}
+use Rattle.records.specs.declared.Blocks.{Blocks}
+use Rattle.records.specs.declared.Arms.{Arms}
 use Rattle.records.specs.declared.Graph.{Graph}
 use Rattle.records.specs.declared.Order.{Order}
 use Rattle.records.specs.Tables.{tabled, Stands, inOrder}
+use Rattle.records.proofs.TableLaws.{upTo-length}
 use Rattle.records.proofs.StandLaws.{once-listed, in-listed, in-tables, find-in, numbers-are}
-use Rattle.exits.specs.declared.Laid.{Laid}
+use Rattle.walks.specs.Lent as walks
+use Rattle.walks.specs.Lent.{LentMarked, Ordered}
+use Rattle.cold.specs.declared.Parts.{Parts}
 use Rattle.cold.specs.Lent as cold
-use Rattle.cold.specs.Lent.{OverMarks}
+use Rattle.cold.specs.Lent.{withMarks, Spreads, SpreadTo, OverMarks, Divides, PartedBy}
+use Rattle.exits.specs.declared.Counts.{Counts}
 use Rattle.exits.specs.Lays as exits
-use Rattle.exits.specs.Lays.{layAt, armsTo, Fits, LaidOf}
+use Rattle.exits.specs.Lays.{layAt, armsTo, Fits, LaidOf, Lays}
 use Rattle.exits.proofs.Turns.{order-length, order-get}
-use Rattle.layout.specs.Blocks.{splitAt, PlacedOf}
+use Rattle.layout.specs.Blocks.{splitAt, Over, Ready, PlacedOf}
 use Rattle.layout.proofs.OrderLaws.{get-in, once-places, partition-count, order-total}
-
--- a graph has its own tables
-pub same : (t : Graph) → cold.Over t (t .b .listed) (t .b .marks) (t .a .first) (t .a .count) (t .a .to) (t .blocks)
-same t = record { listed-is = refl; marks-is = refl; first-is = refl; count-is = refl; to-is = refl; blocks-is = refl }
-
-pub same-marks : (t : Graph) → OverMarks t (t .b .listed) (t .b .marks) (t .blocks)
-same-marks t = record { listed-is = refl; marks-is = refl; blocks-is = refl }
-
-pub same-tables : (t : Graph) → exits.Over t (t .b .marks) (t .b .ends) (t .b .weight) (t .a)
-same-tables t = record { marks-is = refl; ends-is = refl; weight-is = refl; arms-are = refl }
 
 -- tables stand for their own graph
 pub stands-own : {n m : ℕ} {t : Graph} {g : graph.Graph} → Stands n m t g → Stands n m t (tabled t)
@@ -190,7 +186,10 @@ module _ (t s : Graph) (stands : Stands most.numbers most.mostArms s (spread (ta
       }
 
       -- ---- laid
-      module _ (l : Laid) (h : LaidOf (tabled s) (inOrder p) cut l) where
+      module _ (b : Blocks) (a : Arms) (x : List ℕ) (l : Counts) (h : LaidOf (tabled s) (inOrder p) cut b a x l) where
+        abbrev laid : Graph
+        laid = record { blocks = l .places; arms = l .arms; b = b; a = a }
+
         lay-is : layAt (tabled s) (inOrder p) cut ≡ lay (tabled s) (inOrder o)
         lay-is =
             split-bool (splits (tabled s))
@@ -225,7 +224,7 @@ module _ (t s : Graph) (stands : Stands most.numbers most.mostArms s (spread (ta
           front = layPart (tabled s) false most.numbers (warmPart (tabled s) (inOrder o))
 
           -- the numbers of the places: those of the front, and then the first cold block
-          laid-numbers : (k : List ℕ) × (numbersOf (tabled (l .graph)) ≡ numbersOf (laidGraph front) ++ (some-cold .0 ∷ k))
+          laid-numbers : (k : List ℕ) × (numbersOf (tabled laid) ≡ numbersOf (laidGraph front) ++ (some-cold .0 ∷ k))
           unfolding front
           laid-numbers =
               let q = part-first (tabled s) true (most.numbers + bridges front) (some-cold .0) (some-cold .1) (block-in (tabled s) (some-cold .0) first-in .1) in (
@@ -238,25 +237,25 @@ module _ (t s : Graph) (stands : Stands most.numbers most.mostArms s (spread (ta
           front-long : length (numbersOf (laidGraph front)) ≡ length front
           front-long = numbers-long front
 
-          listed-is : take (l .graph .blocks) (l .graph .b .listed) ≡ numbersOf (laidGraph front) ++ (some-cold .0 ∷ laid-numbers .0)
+          listed-is : take (l .places) (b .listed) ≡ numbersOf (laidGraph front) ++ (some-cold .0 ∷ laid-numbers .0)
           unfolding tabled
-          listed-is = sym (numbers-are (l .graph .b) (l .graph .a) (l .graph .blocks) (omega (arith, h .stands .few, h .stands .blocks-sized .listed))) ∙ laid-numbers .1
+          listed-is = sym (numbers-are b a (l .places) (omega (arith, h .stands .few, h .stands .blocks-sized .listed))) ∙ laid-numbers .1
 
-          in-front : length front < l .graph .blocks
-          in-front = omega (arith, front-long, ap length listed-is, length-append (numbersOf (laidGraph front)) (some-cold .0 ∷ laid-numbers .0), length-take (l .graph .blocks) (l .graph .b .listed))
+          in-front : length front < l .places
+          in-front = omega (arith, front-long, ap length listed-is, length-append (numbersOf (laidGraph front)) (some-cold .0 ∷ laid-numbers .0), length-take (l .places) (b .listed))
 
-          at-front : getD (l .graph .b .listed) (length front) 0 ≡ some-cold .0
+          at-front : getD (b .listed) (length front) 0 ≡ some-cold .0
           at-front =
-              sym (getD-take (l .graph .blocks) (l .graph .b .listed) (length front) 0 in-front)
+              sym (getD-take (l .places) (b .listed) (length front) 0 in-front)
               ∙ ap₂ (λ (k : List ℕ) (i : ℕ). getD k i 0) listed-is (sym front-long) ∙ get-at (numbersOf (laidGraph front)) (laid-numbers .0) (some-cold .0)
 
-          placed : getD (l .graph .b .place) (getD (p .block) cut 0) 0 ≡ suc (length front)
-          placed = ap (λ (m : ℕ). getD (l .graph .b .place) m 0) (first-is ∙ sym at-front) ∙ h .stands .back (length front) in-front
+          placed : getD (b .place) (getD (p .block) cut 0) 0 ≡ suc (length front)
+          placed = ap (λ (m : ℕ). getD (b .place) m 0) (first-is ∙ sym at-front) ∙ h .stands .back (length front) in-front
 
-        pub split-found : cut < most.blocks → 0 < getD (l .graph .b .place) (getD (p .block) cut 0) 0
+        pub split-found : cut < most.blocks → 0 < getD (b .place) (getD (p .block) cut 0) 0
         split-found k = split-bool (splits (tabled s)) (λ e. omega (arith, placed e)) (λ e. absurd (omega (arith, k, none e)))
 
-        split-is : splitAt (l .graph .b .place) (p .block) cut ≡ splitPlace (tabled s) (inOrder o)
+        split-is : splitAt (b .place) (p .block) cut ≡ splitPlace (tabled s) (inOrder o)
         unfolding splitAt splitPlace warmPlaces front
         split-is =
             split-bool (splits (tabled s))
@@ -264,16 +263,91 @@ module _ (t s : Graph) (stands : Stands most.numbers most.mostArms s (spread (ta
             (λ e. rw (le-ltb cut most.blocks (omega (arith, none e)), e))
 
         -- THE LAW
-        pub placed-of : (split : ℕ) → split ≡ splitAt (l .graph .b .place) (p .block) cut → PlacedOf (tabled t) (record { laid = l; split = split })
+        pub placed-of : (split : ℕ) → split ≡ splitAt (b .place) (p .block) cut → PlacedOf (tabled t) b a x (record { laid = l; split = split })
         placed-of split e =
             let f : inOrder o ≡ order (spread (tabled t)) = oe ∙ ap order (stands .graph-is) in
             let k : layAt (tabled s) (inOrder p) cut ≡ lay (spread (tabled t)) (order (spread (tabled t))) = lay-is ∙ ap₂ lay (stands .graph-is) f in
             record {
               places = h .places ∙ k;
-              stands = subst (λ (x : List Place). Stands most.blocks most.arms (l .graph) (laidGraph x)) k (h .stands);
+              stands = subst (λ (y : List Place). Stands most.blocks most.arms laid (laidGraph y)) k (h .stands);
               bridged = h .bridged ∙ ap bridges k;
-              total = h .total ∙ ap (λ (x : List Place). armTotal (laidGraph x)) k;
+              total = h .total ∙ ap (λ (y : List Place). armTotal (laidGraph y)) k;
               few-arms = h .few-arms;
               exits-sized = h .exits-sized;
-              split = e ∙ split-is ∙ ap₂ splitPlace (stands .graph-is) f;
+              split-is = e ∙ split-is ∙ ap₂ splitPlace (stands .graph-is) f;
             }
+
+-- ---- the passes over lent tables, of a graph that has them; m are the marks as spreading leaves them
+pub over-length : {t : Graph} {listed marks ends weight : List ℕ} {a : Arms} {n : ℕ} → Over t listed marks ends weight a n → length (tabled t) ≡ n
+unfolding tabled
+over-length {t} e = upTo-length (t .b) (t .a) (t .blocks) ∙ e .blocks-is
+
+module _ {t : Graph} {listed marks ends weight : List ℕ} {a : Arms} {n : ℕ} (e : Over t listed marks ends weight a n) (r : Ready t) where
+  over-spread : cold.Over t listed marks (a .first) (a .count) (a .to) n
+  over-spread =
+      record {
+        listed-is = e .listed-is;
+        marks-is = e .marks-is;
+        first-is = ap (λ (x : Arms). x .first) (e .arms-are);
+        count-is = ap (λ (x : Arms). x .count) (e .arms-are);
+        to-is = ap (λ (x : Arms). x .to) (e .arms-are);
+        blocks-is = e .blocks-is;
+      }
+
+  pub can-spread : Spreads listed marks (a .first) (a .count) (a .to) n
+  can-spread = record { graph = t; over = over-spread; stands = r .stands; whole = r .whole }
+
+  module _ {m : List ℕ} (sp : SpreadTo listed marks (a .first) (a .count) (a .to) n m) where
+    abbrev s : Graph
+    s = withMarks t m
+
+    spread-stands : Stands most.numbers most.mostArms s (spread (tabled t))
+    spread-stands = sp t over-spread (r .stands) (r .whole)
+
+    own : Stands most.numbers most.mostArms s (tabled s)
+    own = stands-own spread-stands
+
+    spread-whole-own : Whole (tabled s)
+    spread-whole-own = whole t s spread-stands (r .whole) (r .total)
+
+    over-order : walks.Over s listed (a .first) (a .count) (a .to) n
+    over-order = record { listed-is = e .listed-is; first-is = over-spread .first-is; count-is = over-spread .count-is; to-is = over-spread .to-is; blocks-is = e .blocks-is }
+
+    over-marks : OverMarks s listed m n
+    over-marks = record { listed-is = e .listed-is; marks-is = refl; blocks-is = e .blocks-is }
+
+    over-lay : exits.Over s m ends weight a
+    over-lay = record { marks-is = refl; ends-is = e .ends-is; weight-is = e .weight-is; arms-are = e .arms-are }
+
+    pub can-order : LentMarked most.numbers most.mostArms listed m (a .first) (a .count) (a .to) n
+    can-order = record { lent = record { t = s; over = over-order; stands = own; whole = spread-whole-own }; marks-is = refl }
+
+    module _ (o : Order) (os : Ordered listed m (a .first) (a .count) (a .to) n o) where
+      order-is : (inOrder o ≡ order (tabled s)) × (o .len ≡ s .blocks)
+      order-is = os s over-order refl own spread-whole-own
+
+      within-own : cold.Within s o
+      within-own = order-in t s spread-stands (r .whole) (r .total) o (order-is .0) (order-is .1)
+
+      pub can-divide : Divides listed m n o
+      can-divide = record { graph = s; over = over-marks; stands = own; within = within-own; fits = omega (arith, order-is .1, r .stands .few) }
+
+      module _ (p : Parts) (ps : PartedBy listed m n o p) where
+        parts-are : cold.Parted s o p
+        parts-are = ps s over-marks own within-own
+
+        fits-own : Fits s (p .order) (p .split)
+        fits-own = layable t s spread-stands (r .whole) (r .total) o (order-is .0) (order-is .1) (p .order) (p .split) (parts-are .0 .0) (parts-are .0 .1) (parts-are .1) (parts-are .0 .2)
+
+        pub can-lay : exits.Layable m ends weight a (p .order) (p .split)
+        can-lay = record { tables = s; over = over-lay; fits = fits-own }
+
+        module _ (b : Blocks) (c : Arms) (x : List ℕ) (l : Counts) (ls : Lays m ends weight a (p .order) (p .split) b c x l) where
+          pub can-split : (length (b .place) ≡ most.blocks) × (length (p .order .block) ≡ most.blocks) × (p .split < most.blocks → 0 < getD (b .place) (getD (p .order .block) (p .split) 0) 0)
+          can-split =
+              let h = ls s over-lay fits-own in
+              (h .stands .blocks-sized .place, parts-are .0 .2, split-found t s spread-stands (r .whole) (r .total) o (order-is .0) (order-is .1) (p .order) (p .split) (parts-are .0 .0) (parts-are .0 .1) (parts-are .1) (parts-are .0 .2) b c x l h)
+
+          pub all-placed : (split : ℕ) → split ≡ splitAt (b .place) (p .order .block) (p .split) → PlacedOf (tabled t) b c x (record { laid = l; split = split })
+          all-placed =
+              placed-of t s spread-stands (r .whole) (r .total) o (order-is .0) (order-is .1) (p .order) (p .split) (parts-are .0 .0) (parts-are .0 .1) (parts-are .1) (parts-are .0 .2) b c x l (ls s over-lay fits-own)

@@ -1,4 +1,4 @@
--- What the passes make of a graph.
+-- What the passes ask of the tables that they are lent, and what they make of a graph that has them.
 use Prim.Native.Nat.{ℕ, _-_, _≤_}
 use mathlib.Core.Path.{_≡_}
 use mathlib.Core.Bool.{cond}
@@ -6,13 +6,16 @@ use mathlib.Core.List.{List}
 use lib.Dec.{ltb}
 use lib.ListN.{length, getD}
 use Rattle.limits.specs.Limits as most
-use Rattle.rules.specs.declared.Answer.{Answer}
 use Rattle.rules.specs.Graph as graph
 use Rattle.rules.specs.Within.{armTotal}
 use Rattle.rules.specs.Spread.{spread}
 use Rattle.rules.specs.PlainOrder.{order}
 use Rattle.rules.specs.Exits.{Place, bridges, lay, splitPlace, laidGraph}
-use Rattle.records.specs.Tables.{Stands}
+use Rattle.rules.proofs.Wholeness.{Whole}
+use Rattle.records.specs.declared.Blocks.{Blocks}
+use Rattle.records.specs.declared.Arms.{Arms}
+use Rattle.records.specs.declared.Graph.{Graph}
+use Rattle.records.specs.Tables.{tabled, Stands}
 use Rattle.exits.specs.Lays.{placesTo}
 use Rattle.layout.specs.declared.blocks.Placed.{Placed}
 
@@ -24,16 +27,41 @@ splitAt place order split = cond (ltb split most.blocks) (getD place (getD order
 abbrev pub plain : graph.Graph → List Place
 plain g = lay (spread g) (order (spread g))
 
-pub record PlacedOf (g : graph.Graph) (r : Placed) : Type 0 where
-  pub places : placesTo (r .laid .graph .b) (r .laid .graph .a) (r .laid .exits) (r .laid .graph .blocks) ≡ plain g
-  pub stands : Stands most.blocks most.arms (r .laid .graph) (laidGraph (plain g))
-  pub bridged : r .laid .bridges ≡ bridges (plain g)
-  pub total : r .laid .graph .arms ≡ armTotal (laidGraph (plain g))
-  pub few-arms : r .laid .graph .arms ≤ most.arms
-  pub exits-sized : length (r .laid .exits) ≡ most.blocks
-  pub split : r .split ≡ splitPlace (spread g) (order (spread g))
+-- the place of its cold part's first block
+abbrev pub plainSplit : graph.Graph → ℕ
+plainSplit g = splitPlace (spread g) (order (spread g))
 
--- the answer of a layout
-unfoldable pub laidOut : ℕ → ℕ → ℕ → ℕ → ℕ → Answer
-laidOut bytes blocks bridges moved split =
-    record { refusal = 0; place = 0; needed = 0; written = bytes; blocks = blocks; bridges = bridges; moved = moved; split = split }
+-- t has these tables, and n blocks
+pub record Over (t : Graph) (listed marks ends weight : List ℕ) (a : Arms) (n : ℕ) : Type 0 where
+  pub listed-is : t .b .listed ≡ listed
+  pub marks-is : t .b .marks ≡ marks
+  pub ends-is : t .b .ends ≡ ends
+  pub weight-is : t .b .weight ≡ weight
+  pub arms-are : t .a ≡ a
+  pub blocks-is : t .blocks ≡ n
+
+-- t stands for a graph that can be laid
+pub record Ready (t : Graph) : Type 0 where
+  pub stands : Stands most.numbers most.mostArms t (tabled t)
+  pub whole : Whole (tabled t)
+  pub total : armTotal (tabled t) ≤ most.mostArms
+
+-- some such t has these tables
+pub record Placeable (listed marks ends weight : List ℕ) (a : Arms) (n : ℕ) : Type 0 where
+  pub graph : Graph
+  pub over : Over graph listed marks ends weight a n
+  pub ready : Ready graph
+
+-- the tables b, a and exits have the places of g
+pub record PlacedOf (g : graph.Graph) (b : Blocks) (a : Arms) (exits : List ℕ) (r : Placed) : Type 0 where
+  pub places : placesTo b a exits (r .laid .places) ≡ plain g
+  pub stands : Stands most.blocks most.arms (record { blocks = r .laid .places; arms = r .laid .arms; b = b; a = a }) (laidGraph (plain g))
+  pub bridged : r .laid .bridges ≡ bridges (plain g)
+  pub total : r .laid .arms ≡ armTotal (laidGraph (plain g))
+  pub few-arms : r .laid .arms ≤ most.arms
+  pub exits-sized : length exits ≡ most.blocks
+  pub split-is : r .split ≡ plainSplit g
+
+-- for every such t: the tables then have its places
+abbrev pub Places : List ℕ → List ℕ → List ℕ → List ℕ → Arms → ℕ → Blocks → Arms → List ℕ → Placed → Type 0
+Places listed marks ends weight a n b c exits r = (t : Graph) → Over t listed marks ends weight a n → Ready t → PlacedOf (tabled t) b c exits r

@@ -1,19 +1,20 @@
-// The passes from a graph to its places, with reordering off.
-use exits::Laid;
+// The passes from a graph in tables to its places, with reordering off.
+use exits::Counts;
+use limits::ARMS;
 use limits::BLOCKS;
-use records::Graph;
+use records::Order;
 ghost use mathlib.Core.Path.{_≡_};
-ghost use Prim.Native.Nat.{_≤_, _<_, _+_};
+ghost use Prim.Native.Nat.{_<_};
 ghost use lib.ListN.{length, getD};
 ghost use Rattle.limits.specs.Limits.{numbers, mostArms, blocks};
-ghost use Rattle.rules.specs.Within.{armTotal};
-ghost use Rattle.rules.proofs.Wholeness.{Whole};
-ghost use Rattle.records.specs.Tables.{tabled, Stands};
-ghost use Rattle.layout.specs.Blocks.{splitAt, PlacedOf};
+ghost use Rattle.records.specs.Tables.{blockTables, armTables};
+ghost use Rattle.walks.specs.Lent.{LentMarked, Ordered};
+ghost use Rattle.exits.specs.Lays.{Unlaid};
+ghost use Rattle.layout.specs.Blocks.{splitAt, Placeable, Places};
 
-// What is laid, and the place of its cold part's first block.
+// How much is laid, and the place of its cold part's first block.
 pub struct Placed {
-    pub laid: Laid,
+    pub laid: Counts,
     pub split: usize,
 }
 
@@ -28,39 +29,74 @@ fn split_place<'a>(place: &'a [u16; BLOCKS], order: &'a [u16; BLOCKS], split: us
     lists::entry_of(place, order[split]) - 1
 }
 
-// Spread, put in order, split, and left by exits with bridges.
-pub fn blocks(g: Graph) -> Placed
-    requires { ⌜ Stands numbers mostArms g (tabled g) × Whole (tabled g) × (armTotal (tabled g) ≤ mostArms) ⌝ }
-    ensures { λ r. ⌜ PlacedOf (tabled g) r ⌝ }
+// The order of the n listed blocks, before it is split.
+fn ordered<'a>(
+    listed: &'a [u16; BLOCKS],
+    marks: &'a [u8; BLOCKS],
+    first: &'a [u16; BLOCKS],
+    count: &'a [u16; BLOCKS],
+    to: &'a [u16; ARMS],
+    n: usize,
+) -> Order
+    requires { ⌜ LentMarked numbers mostArms (now listed) (now marks) (now first) (now count) (now to) n ⌝ }
+    ensures { λ r. ⌜ Ordered (now (listed .entry)) (now (marks .entry)) (now (first .entry)) (now (count .entry)) (now (to .entry)) n r ⌝ }
 {
-    let b = g.b;
-    let a = g.a;
-    let n = g.blocks;
-    let mut marks = b.marks;
-    cold::spread(&b.listed, &a.first, &a.count, &a.to, n, &mut marks);
-    let o = walks::order(&b.listed, &marks, &a.first, &a.count, &a.to, n);
-    let parts = cold::partition(&b.listed, &marks, n, o);
+    walks::order(listed, marks, first, count, to, n)
+}
+
+// Spread, put in order, split, and left by exits with bridges.
+pub fn blocks<'a>(
+    olisted: &'a [u16; BLOCKS],
+    ofirst: &'a [u16; BLOCKS],
+    ocount: &'a [u16; BLOCKS],
+    oto: &'a [u16; ARMS],
+    oargs: &'a [u8; ARMS],
+    oheft: &'a [u64; ARMS],
+    n: usize,
+    listed: &mut [u16; BLOCKS],
+    place: &mut [u16; BLOCKS],
+    marks: &mut [u8; BLOCKS],
+    ends: &mut [u8; BLOCKS],
+    weight: &mut [u64; BLOCKS],
+    first: &mut [u16; BLOCKS],
+    count: &mut [u16; BLOCKS],
+    exits: &mut [u8; BLOCKS],
+    to: &mut [u16; ARMS],
+    args: &mut [u8; ARMS],
+    heft: &mut [u64; ARMS],
+) -> Placed
+    requires { ⌜ Placeable (now olisted) (now marks) (now ends) (now weight) (armTables (now ofirst) (now ocount) (now oto) (now oargs) (now oheft)) n ⌝ }
+    requires { ⌜ Unlaid (now listed) (now place) (now exits) (armTables (now first) (now count) (now to) (now args) (now heft)) ⌝ }
+    ensures { λ r. ⌜ Places (now (olisted .entry)) (now (marks .entry)) (now (ends .entry)) (now (weight .entry)) (armTables (now (ofirst .entry)) (now (ocount .entry)) (now (oto .entry)) (now (oargs .entry)) (now (oheft .entry))) n (blockTables (now (place .exit)) (now (listed .exit)) (now (marks .exit)) (now (ends .exit)) (now (weight .exit))) (armTables (now (first .exit)) (now (count .exit)) (now (to .exit)) (now (args .exit)) (now (heft .exit))) (now (exits .exit)) r ⌝ }
+{
+    cold::spread(olisted, ofirst, ocount, oto, n, marks);
+    let o = ordered(olisted, marks, ofirst, ocount, oto, n);
+    let parts = cold::partition(olisted, marks, n, o);
     let order = parts.order;
     let block = order.block;
     let cut = parts.split;
-    let ends = b.ends;
-    let weight = b.weight;
     let laid = exits::lay(
+        ofirst,
+        ocount,
+        oto,
+        oargs,
+        oheft,
+        order,
+        cut,
+        listed,
+        place,
         marks,
         ends,
         weight,
-        &a.first,
-        &a.count,
-        &a.to,
-        &a.args,
-        &a.weight,
-        order,
-        cut,
+        first,
+        count,
+        exits,
+        to,
+        args,
+        heft,
     );
-    let graph = laid.graph;
-    let tables = graph.b;
     Placed {
         laid,
-        split: split_place(&tables.place, &block, cut),
+        split: split_place(place, &block, cut),
     }
 }

@@ -346,23 +346,23 @@ module _ (place t : List ℕ) (m : ℕ) where
   held-start l₀ h = (arms-start l₀ place t m h, sym (none-last l₀ (h .armless)))
 
   module _ (j last : ℕ) (a : Arms) (held : Held place t m j last a) where
-    pub held-all : (k : ℕ) → j ≡ k → k ≡ m → ArmsAfter place t m (record { why = 0; at = j; a = a })
+    pub held-all : (k : ℕ) → j ≡ k → k ≡ m → ArmsAfter place t m a (record { why = 0; at = j })
     held-all k e q l₀ h =
         record { refused = λ z. absurd (z refl); held = λ z. (e ∙ q, subst (λ (n : ℕ). ArmsHeld l₀ place (onward l₀ t n) n a) (e ∙ q) (held l₀ h .0)) }
 
     refusal : (why : ℕ) → j < m → (why ≡ 0 → ⊥)
         → ((l₀ : List Record) → Starts l₀ place t m → first (allChecks (onward l₀ t (suc j))) ≡ at why (length l₀ + j))
-        → ArmsAfter place t m (record { why = why; at = j; a = a })
+        → ArmsAfter place t m a (record { why = why; at = j })
     refusal why k z f l₀ h = record { refused = λ _. (k, f l₀ h); held = λ q. absurd (z q) }
 
-    pub held-no-arm : (r : Record) → recordAt t j ≡ r → j < m → OneOf (0 ∷ 2 ∷ []) (tagOf the-type r) → ArmsAfter place t m (record { why = noArm r; at = j; a = a })
+    pub held-no-arm : (r : Record) → recordAt t j ≡ r → j < m → OneOf (0 ∷ 2 ∷ []) (tagOf the-type r) → ArmsAfter place t m a (record { why = noArm r; at = j })
     held-no-arm r e k o l₀ h =
         let f = no-arm-at l₀ place t m j last a h (held l₀ h .0) r e k o in
         record { refused = λ _. (k, f .0); held = λ q. absurd (f .1 q) }
 
     module _ (from to args weight : ℕ) (e : recordAt t j ≡ Arm from to args weight) where
       pub held-refused : (why : ℕ) → why ≡ armFault (getD place from 0) (getD place to 0) last j → (why ≡ 0 → ⊥) → j < m
-          → ArmsAfter place t m (record { why = why; at = j; a = a })
+          → ArmsAfter place t m a (record { why = why; at = j })
       held-refused why w z k =
           refusal why k z (λ l₀ h. arm-refused l₀ place t m j last a h (held l₀ h .0) from to args weight e (held l₀ h .1) why w z)
 

@@ -223,7 +223,7 @@ not-block Outside q k = k
 
 module _ (s : List ℕ) (i n entry : ℕ) (b : Blocks) (h : BlocksHeld s i entry b) (l : i < n) where
   -- the reading ends at a record that is no block
-  pub ends-at : (r : Record) → recordAt s i ≡ r → (IsBlock r → ⊥) → BlocksReadOf s n (record { why = noBlock r; at = i; entry = entry; b = b })
+  pub ends-at : (r : Record) → recordAt s i ≡ r → (IsBlock r → ⊥) → BlocksReadOf s n b (record { why = noBlock r; at = i; entry = entry })
   unfolding noBlock
   ends-at (Block number marks end weight) e d = absurd (d tt)
   ends-at (Arm from to args weight) e d =
@@ -232,5 +232,5 @@ module _ (s : List ℕ) (i n entry : ℕ) (b : Blocks) (h : BlocksHeld s i entry
       record { within = omega (arith, l); refused = λ z. (l, outside-at s i entry b h e); held = λ z. absurd (omega (arith, z)); ended = λ z. absurd (omega (arith, z)) }
 
   -- or at one that is refused
-  pub stops-at : (why : ℕ) → first (allChecks (before s (suc i))) ≡ at why i → (why ≡ 0 → ⊥) → BlocksReadOf s n (record { why = why; at = i; entry = entry; b = b })
+  pub stops-at : (why : ℕ) → first (allChecks (before s (suc i))) ≡ at why i → (why ≡ 0 → ⊥) → BlocksReadOf s n b (record { why = why; at = i; entry = entry })
   stops-at why f z = record { within = omega (arith, l); refused = λ _. (l, f); held = λ q. absurd (z q); ended = λ q. absurd (z q) }

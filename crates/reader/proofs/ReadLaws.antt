@@ -6,7 +6,7 @@ use mathlib.Core.Path.{_≡_, refl, sym, ap, ap₂, subst, _∙_}
 use mathlib.Core.List.{List, [], _∷_, _++_}
 use lib.ListN.{length, getD, take, drop}
 use lib.Seq.{drop-drop}
-use Rattle.limits.specs.Limits.{size, numbers, mostBytes}
+use Rattle.limits.specs.Limits.{size, numbers, mostBytes, blocks}
 use Rattle.lists.proofs.Parts.{tail-is}
 use Rattle.lists.proofs.Tables.{marked-most}
 use Rattle.rules.specs.declared.Record.{Record}
@@ -20,7 +20,6 @@ use Rattle.rules.proofs.Listed.{place-most, unlisted-arms}
 use Rattle.rules.proofs.Grouped.{written-length}
 use Rattle.records.specs.declared.Blocks.{Blocks}
 use Rattle.records.specs.declared.Arms.{Arms}
-use Rattle.records.specs.Tables as tables
 use Rattle.records.specs.Tables.{leaves, blockAt, upTo, tabled, ArmsSized, ArmsWithin, Holds}
 use Rattle.reader.specs.declared.BlocksRead.{BlocksRead}
 use Rattle.reader.specs.declared.ArmsRead.{ArmsRead}
@@ -108,19 +107,22 @@ module _ (s : List ℕ) (i entry : ℕ) (b : Blocks) (h : BlocksHeld s i entry b
       none-panics z = by-panics ∙ first-clear (panicChecks 0 (upTo b a i)) (panics-clear b a i (λ j y. q .none j (omega (arith, y, z))))
 
 -- ---- as the code goes through it
-pub refuses : (s : List ℕ) (r : Reading) (number place : ℕ) → r .verdict ≡ at number place → verdict s ≡ at number place → (number ≡ 0 → ⊥) → Reads s r
-refuses s r number place e v z =
+pub refuses : (s : List ℕ) (b : Blocks) (a : Arms) (r : Reading) (number place : ℕ) → r .verdict ≡ at number place → verdict s ≡ at number place → (number ≡ 0 → ⊥) → Reads s b a r
+refuses s b a r number place e v z =
     record { verdict-is = e ∙ sym v; held = λ q. absurd (z (sym (ap (λ (x : Verdict). x .number) e) ∙ q)) }
 
-module _ (s : List ℕ) (short : length s ≤ mostBytes) (whole : length s % size ≡ 0) (f : BlocksRead) (g : BlocksReadOf s (length s / size) f) where
+module _ (s : List ℕ) (short : length s ≤ mostBytes) (whole : length s % size ≡ 0) (b : Blocks) (f : BlocksRead) (g : BlocksReadOf s (length s / size) b f) where
+  pub few-blocks : f .why ≡ 0 → f .at ≤ blocks
+  few-blocks z = omega (arith, g .held z .full, marked-most (b .place) numbers)
+
   pub blocks-refused : (f .why ≡ 0 → ⊥) → verdict s ≡ at (f .why) (f .at)
   blocks-refused z = at-record s short whole (f .at) (f .why) (g .refused z .0) z (g .refused z .1)
 
-  module _ (w : f .why ≡ 0) (r : ArmsRead) (k : ArmsAfter (f .b .place) (take (length s - size * f .at) (drop (size * f .at) s)) (length s / size - f .at) r) where
-    after : ArmsReadOf (before s (f .at)) (f .b .place) (drop (size * f .at) s) (length s / size - f .at) r
+  module _ (w : f .why ≡ 0) (a : Arms) (r : ArmsRead) (k : ArmsAfter (b .place) (take (length s - size * f .at) (drop (size * f .at) s)) (length s / size - f .at) a r) where
+    after : ArmsReadOf (before s (f .at)) (b .place) (drop (size * f .at) s) (length s / size - f .at) a r
     after =
-        subst (λ (t : List ℕ). ArmsAfter (f .b .place) t (length s / size - f .at) r) (tail-is s (size * f .at)) k (before s (f .at))
-        (starts s (f .at) (f .entry) (f .b) (g .held w) (length s / size) (g .ended w))
+        subst (λ (t : List ℕ). ArmsAfter (b .place) t (length s / size - f .at) a r) (tail-is s (size * f .at)) k (before s (f .at))
+        (starts s (f .at) (f .entry) b (g .held w) (length s / size) (g .ended w))
 
     pub arms-refused : (r .why ≡ 0 → ⊥) → verdict s ≡ at (r .why) (f .at + r .at)
     arms-refused z =
@@ -131,25 +133,25 @@ module _ (s : List ℕ) (short : length s ≤ mostBytes) (whole : length s % siz
         (onward-before s (f .at) (suc (r .at)) ∙ ap (before s) (add-suc (f .at) (r .at)))
         (c .1 ∙ ap (at (r .why)) e))
 
-    pub arms-held : r .why ≡ 0 → ArmsHeld (before s (f .at)) (f .b .place) (before s (length s / size)) (length s / size - f .at) (r .a)
+    pub arms-held : r .why ≡ 0 → ArmsHeld (before s (f .at)) (b .place) (before s (length s / size)) (length s / size - f .at) a
     arms-held z =
         let m = length s / size - f .at in
         let e : f .at + m ≡ length s / size = omega (arith, g .within) in
-        subst (λ (l : List Record). ArmsHeld (before s (f .at)) (f .b .place) l m (r .a)) (onward-before s (f .at) m ∙ ap (before s) e) (after .held z .1)
+        subst (λ (l : List Record). ArmsHeld (before s (f .at)) (b .place) l m a) (onward-before s (f .at) m ∙ ap (before s) e) (after .held z .1)
 
-    module _ (z : r .why ≡ 0) (sized : ArmsSized (r .a)) (fits : ArmsWithin (r .a) (r .at)) (p : ℕ) (q : PanicOf (f .b .listed) (f .b .ends) (r .a .count) (f .at) p) where
-      fits-all : ArmsWithin (r .a) (length s / size - f .at)
-      fits-all = subst (ArmsWithin (r .a)) (after .held z .0) fits
+    module _ (z : r .why ≡ 0) (sized : ArmsSized a) (fits : ArmsWithin a (r .at)) (p : ℕ) (q : PanicOf (b .listed) (b .ends) (a .count) (f .at) p) where
+      fits-all : ArmsWithin a (length s / size - f .at)
+      fits-all = subst (ArmsWithin a) (after .held z .0) fits
 
       pub panic-refused : p < f .at → verdict s ≡ at 9 p
       panic-refused =
-          panics s (f .at) (f .entry) (f .b) (g .held w) (r .a) (length s / size) (g .within) (arms-held z) sized fits-all short whole refl p q
+          panics s (f .at) (f .entry) b (g .held w) a (length s / size) (g .within) (arms-held z) sized fits-all short whole refl p q
 
       pub reads-all : f .at ≤ p
-          → Reads s (record { verdict = at 0 0; graph = record { blocks = f .at; arms = length s / size - f .at; b = f .b; a = r .a } })
+          → Reads s b a (record { verdict = at 0 0; blocks = f .at; arms = length s / size - f .at })
       unfolding records
       reads-all l =
           record {
-            verdict-is = sym (none-panics s (f .at) (f .entry) (f .b) (g .held w) (r .a) (length s / size) (g .within) (arms-held z) sized fits-all short whole refl p q l);
-            held = λ _. holds s (f .at) (f .entry) (f .b) (g .held w) (r .a) (length s / size) (g .within) (arms-held z) sized fits-all;
+            verdict-is = sym (none-panics s (f .at) (f .entry) b (g .held w) a (length s / size) (g .within) (arms-held z) sized fits-all short whole refl p q l);
+            held = λ _. holds s (f .at) (f .entry) b (g .held w) a (length s / size) (g .within) (arms-held z) sized fits-all;
           }

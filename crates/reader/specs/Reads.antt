@@ -44,10 +44,11 @@ pub record BlocksHeld (s : List ℕ) (i entry : ℕ) (b : Blocks) : Type 0 where
   pub blank : (n : ℕ) → getD (b .place) n 0 ≡ 0 → Blank b n
   pub sized : BlocksSized b
 
-pub record BlocksReadOf (s : List ℕ) (n : ℕ) (r : BlocksRead) : Type 0 where
+-- the reading of n records stopped, and the tables then are b
+pub record BlocksReadOf (s : List ℕ) (n : ℕ) (b : Blocks) (r : BlocksRead) : Type 0 where
   pub within : r .at ≤ n
   pub refused : (r .why ≡ 0 → ⊥) → (r .at < n) × (first (allChecks (before s (suc (r .at)))) ≡ at (r .why) (r .at))
-  pub held : r .why ≡ 0 → BlocksHeld s (r .at) (r .entry) (r .b)
+  pub held : r .why ≡ 0 → BlocksHeld s (r .at) (r .entry) b
   pub ended : r .why ≡ 0 → r .at < n → IsBlock (recordAt s (r .at)) → ⊥
 
 -- ---- the arms: t is the file from its first arm on, l₀ the records before
@@ -77,13 +78,13 @@ pub record ArmsHeld (l₀ : List Record) (place : List ℕ) (l : List Record) (j
   pub entry-same : entryOf l ≡ entryOf l₀
   pub long : length l ≡ length l₀ + j
 
-pub record ArmsReadOf (l₀ : List Record) (place t : List ℕ) (m : ℕ) (r : ArmsRead) : Type 0 where
+pub record ArmsReadOf (l₀ : List Record) (place t : List ℕ) (m : ℕ) (a : Arms) (r : ArmsRead) : Type 0 where
   pub refused : (r .why ≡ 0 → ⊥) → (r .at < m) × (first (allChecks (onward l₀ t (suc (r .at)))) ≡ at (r .why) (length l₀ + r .at))
-  pub held : r .why ≡ 0 → (r .at ≡ m) × ArmsHeld l₀ place (onward l₀ t m) m (r .a)
+  pub held : r .why ≡ 0 → (r .at ≡ m) × ArmsHeld l₀ place (onward l₀ t m) m a
 
 -- whatever records come before
-abbrev pub ArmsAfter : List ℕ → List ℕ → ℕ → ArmsRead → Type 0
-ArmsAfter place t m r = (l₀ : List Record) → Starts l₀ place t m → ArmsReadOf l₀ place t m r
+abbrev pub ArmsAfter : List ℕ → List ℕ → ℕ → Arms → ArmsRead → Type 0
+ArmsAfter place t m a r = (l₀ : List Record) → Starts l₀ place t m → ArmsReadOf l₀ place t m a r
 
 -- ---- 9
 
@@ -96,7 +97,7 @@ pub record PanicOf (listed ends count : List ℕ) (n r : ℕ) : Type 0 where
   pub none : (i : ℕ) → i < r → panicsAt listed ends count i ≡ false
   pub hit : r < n → panicsAt listed ends count r ≡ true
 
--- ---- the whole file
-pub record Reads (s : List ℕ) (r : Reading) : Type 0 where
+-- ---- the whole file: its verdict, and where that is 0 its graph in the tables
+pub record Reads (s : List ℕ) (b : Blocks) (a : Arms) (r : Reading) : Type 0 where
   pub verdict-is : r .verdict ≡ verdict s
-  pub held : r .verdict .number ≡ 0 → Holds (r .graph) (graphOf (records s))
+  pub held : r .verdict .number ≡ 0 → Holds (record { blocks = r .blocks; arms = r .arms; b = b; a = a }) (graphOf (records s))

@@ -145,7 +145,7 @@ module _ (b : Blocks) (a : Arms) where
       ∙ ap (λ (l : List ℕ). l ++ drop (at + size * count) d) (append-assoc (take k d) (armsBytes (upTo b a i)) ys ∙ ap (λ (l : List ℕ). take k d ++ l) q)
 
 -- ---- blocks and arms
-only-blocks : (b : Blocks) (a : Arms) (i : ℕ) → upTo (onlyBlocks (b .listed) (b .marks) (b .ends) (b .weight)) a i ≡ upTo b a i
+pub only-blocks : (b : Blocks) (a : Arms) (i : ℕ) → upTo (onlyBlocks (b .listed) (b .marks) (b .ends) (b .weight)) a i ≡ upTo b a i
 unfolding upTo blockAt
 only-blocks b a zero = refl
 only-blocks b a (suc i) = ap (λ (g : Graph). g ++ (blockAt b a (getD (b .listed) i 0) ∷ [])) (only-blocks b a i)

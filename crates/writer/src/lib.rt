@@ -2,7 +2,6 @@
 use limits::ARMS;
 use limits::BLOCKS;
 use limits::RECORD;
-use records::Graph;
 use records::fields;
 ghost use mathlib.Core.Path.{_≡_};
 ghost use Prim.Native.Nat.{_+_, _*_, _≤_};
@@ -11,7 +10,8 @@ ghost use lib.ListN.{length, drop};
 ghost use Rattle.limits.specs.Limits.{size, blocks, arms};
 ghost use Rattle.lists.specs.Behind.{behind};
 ghost use Rattle.rules.specs.Records.{blocksBytes, leavingBytes, armsBytes, written};
-ghost use Rattle.records.specs.Tables.{armsFrom, onlyBlocks, onlyListed, onlyArms, armTables, upTo, tabled, noArms, ArmsWithin, Holds};
+ghost use Rattle.records.specs.Tables.{armsFrom, onlyBlocks, onlyListed, onlyArms, armTables, upTo, noArms, ArmsWithin};
+ghost use Rattle.writer.specs.Files.{Writable};
 
 // The records of the first n listed blocks.
 fn put_blocks<'a>(
@@ -104,23 +104,23 @@ pub fn put_arms<'a>(
     }
 }
 
-// The file of a graph, at the front of the room; the rest stays.
-pub fn write(g: Graph, out: &mut [u8])
-    requires { ⌜ Holds g (tabled g) × (size * (g .blocks + g .arms) ≤ length (now out)) ⌝ }
-    ensures { λ _. ⌜ now (out .exit) ≡ written (tabled g) ++ drop (length (written (tabled g))) (now (out .entry)) ⌝ }
+// The file of the first n listed blocks and their arms, at the front of the room; the rest stays.
+pub fn write<'a>(
+    listed: &'a [u16; BLOCKS],
+    marks: &'a [u8; BLOCKS],
+    ends: &'a [u8; BLOCKS],
+    weight: &'a [u64; BLOCKS],
+    first: &'a [u16; BLOCKS],
+    count: &'a [u16; BLOCKS],
+    to: &'a [u16; ARMS],
+    args: &'a [u8; ARMS],
+    heft: &'a [u64; ARMS],
+    n: usize,
+    out: &mut [u8],
+)
+    requires { ⌜ Writable (onlyBlocks (now listed) (now marks) (now ends) (now weight)) (armTables (now first) (now count) (now to) (now args) (now heft)) n (length (now out)) ⌝ }
+    ensures { λ _. ⌜ now (out .exit) ≡ written (upTo (onlyBlocks (now (listed .entry)) (now (marks .entry)) (now (ends .entry)) (now (weight .entry))) (armTables (now (first .entry)) (now (count .entry)) (now (to .entry)) (now (args .entry)) (now (heft .entry))) n) ++ drop (length (written (upTo (onlyBlocks (now (listed .entry)) (now (marks .entry)) (now (ends .entry)) (now (weight .entry))) (armTables (now (first .entry)) (now (count .entry)) (now (to .entry)) (now (args .entry)) (now (heft .entry))) n))) (now (out .entry)) ⌝ }
 {
-    let n = g.blocks;
-    let b = g.b;
-    let a = g.a;
-    put_blocks(&b.listed, &b.marks, &b.ends, &b.weight, n, out);
-    put_arms(
-        &b.listed,
-        &a.first,
-        &a.count,
-        &a.to,
-        &a.args,
-        &a.weight,
-        n,
-        out,
-    );
+    put_blocks(listed, marks, ends, weight, n, out);
+    put_arms(listed, first, count, to, args, heft, n, out);
 }
