@@ -52,14 +52,18 @@ typedef struct Answer {
  */
 Answer layout_write_back(const uint8_t *input, size_t input_len, uint8_t *out, size_t out_len);
 
-/* Reads a file of records, lays its blocks in the plain order (depth-first, nothing reordered by
- * weight) and writes the laid records.
+/* Reads a file of records, lays its blocks and writes the laid records.
  *
  * input, input_len  the file; any bytes of any length are answered
  * forward           whether arms into blocks that only lead on are first moved to where those lead
+ * reorder           whether blocks are laid by weight: in traces along the heaviest arms, loops
+ *                   turned so that the block they are left from comes last; else in the plain
+ *                   order (depth-first)
  * out, out_len      the lent output: on success the laid records are written to its first bytes
  *                   and the rest is kept, and on a refusal no byte changes; no result is longer
  *                   than 12,288 bytes
+ *
+ * Whatever is chosen, cold blocks stand behind the warm ones where the entry is warm.
  *
  * Laid records are a file's, the blocks and bridges in laid order and then the arms of each in
  * that order. What is new in a block's record:
@@ -72,8 +76,8 @@ Answer layout_write_back(const uint8_t *input, size_t input_len, uint8_t *out, s
  *
  * Neither pointer may be null, also where its length is 0, and the two must not overlap.
  */
-Answer layout_plain(const uint8_t *input, size_t input_len, bool forward, uint8_t *out,
-                    size_t out_len);
+Answer layout_blocks(const uint8_t *input, size_t input_len, bool forward, bool reorder,
+                     uint8_t *out, size_t out_len);
 
 #ifdef __cplusplus
 }

@@ -1,11 +1,11 @@
 //! The archive's calls as safe functions.
 
-use judge::records::Answer;
+use judge::records::{Answer, Choices};
 
 #[derive(Clone, Copy)]
 pub struct Archive {
     pub write_back: fn(&[u8], &mut [u8]) -> Answer,
-    pub layout_plain: fn(&[u8], bool, &mut [u8]) -> Answer,
+    pub layout_blocks: fn(&[u8], Choices, &mut [u8]) -> Answer,
 }
 
 #[cfg(archive)]
@@ -17,10 +17,11 @@ pub fn linked() -> Option<Archive> {
             out: *mut u8,
             out_len: usize,
         ) -> Answer;
-        fn layout_plain(
+        fn layout_blocks(
             input: *const u8,
             input_len: usize,
             forward: bool,
+            reorder: bool,
             out: *mut u8,
             out_len: usize,
         ) -> Answer;
@@ -30,8 +31,9 @@ pub fn linked() -> Option<Archive> {
         write_back: |input, out| unsafe {
             layout_write_back(input.as_ptr(), input.len(), out.as_mut_ptr(), out.len())
         },
-        layout_plain: |input, forward, out| unsafe {
-            layout_plain(input.as_ptr(), input.len(), forward, out.as_mut_ptr(), out.len())
+        layout_blocks: |input, Choices { forward, reorder }, out| unsafe {
+            let (from, to) = (input.as_ptr(), out.as_mut_ptr());
+            layout_blocks(from, input.len(), forward, reorder, to, out.len())
         },
     })
 }

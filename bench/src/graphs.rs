@@ -1,5 +1,5 @@
 //! The graphs that are laid: blocks of the kinds that a compiler makes, with loops, cold blocks and
-//! ways through among them.
+//! ways through among them, and loops in loops.
 
 use judge::generate;
 use judge::random::Random;
@@ -13,13 +13,10 @@ struct Kind {
 }
 
 /// The graphs by name.
-pub fn all() -> [(&'static str, Graph); 4] {
+pub fn all() -> [(&'static str, Graph); 5] {
     let kind = |blocks, end, arms| Kind { blocks, end, arms };
     [
-        (
-            "128 blocks, 256 arms",
-            mixed(&[kind(96, BRANCH, 2), kind(24, NOTHING, 1), kind(8, TABLE, 5)]),
-        ),
+        ("128 blocks, 256 arms", branches(128)),
         (
             "128 blocks, 384 arms",
             mixed(&[
@@ -38,8 +35,56 @@ pub fn all() -> [(&'static str, Graph); 4] {
                 kind(4, ORDINARY, 0),
             ]),
         ),
+        ("128 blocks, loops in loops", nest(128)),
         ("1 block", mixed(&[kind(1, ORDINARY, 0)])),
     ]
+}
+
+/// A kind of graph, by the number of its blocks.
+type Grown = fn(usize) -> Graph;
+
+/// The kinds whose growth is looked at, by name, and the numbers of blocks.
+pub const GROWING: [(&str, Grown); 2] = [("branches", branches), ("nests", nest)];
+pub const SIZES: [usize; 4] = [16, 32, 64, 128];
+
+/// Mostly branches: as many blocks as asked for, a multiple of 16, and twice as many arms.
+fn branches(size: usize) -> Graph {
+    let kind = |sixteenths, end, arms| Kind { blocks: size / 16 * sixteenths, end, arms };
+    mixed(&[kind(12, BRANCH, 2), kind(3, NOTHING, 1), kind(1, TABLE, 5)])
+}
+
+/// Loops in loops, an even number of blocks: the entry, the loops' heads with their tests from the
+/// outside in, their ways back, and the way out. A loop goes round ten times as often as the one
+/// around it, as far as a weight goes.
+fn nest(size: usize) -> Graph {
+    let depth = size / 2 - 1;
+    let (head, back, out) = (|at: usize| 1 + at, |at: usize| 1 + depth + at, size - 1);
+    let often = |at: usize| 10_u64.saturating_pow(at as u32 + 5);
+    let again = |at: usize| often(at) / 10 * 9;
+    let block = |at: usize, end, weight| Block { number: at as u8, marks: 0, end, weight };
+    let arm = |from: usize, to: usize, weight| Arm {
+        from: from as u8,
+        to: to as u8,
+        args: false,
+        weight,
+    };
+    let mut graph = Graph {
+        blocks: vec![Block { marks: ENTRY, ..block(0, ORDINARY, 10_000) }],
+        arms: vec![arm(0, head(0), 10_000)],
+    };
+    for at in 0..depth {
+        let inside = if at + 1 < depth { head(at + 1) } else { back(at) };
+        let outside = if at > 0 { back(at - 1) } else { out };
+        graph.blocks.push(block(head(at), BRANCH, often(at)));
+        graph.arms.push(arm(head(at), inside, again(at)));
+        graph.arms.push(arm(head(at), outside, often(at) / 10));
+    }
+    for at in 0..depth {
+        graph.blocks.push(block(back(at), ORDINARY, again(at)));
+        graph.arms.push(arm(back(at), head(at), again(at)));
+    }
+    graph.blocks.push(block(out, ORDINARY, 10_000));
+    graph
 }
 
 /// Blocks of these kinds in a mixed order. The first is the entry.
@@ -80,14 +125,22 @@ pub fn largest() -> impl Iterator<Item = Graph> {
 
 #[cfg(test)]
 mod tests {
+    use super::{GROWING, SIZES};
     use judge::records::Choices;
     use judge::{model, reading};
 
+    const BOTH: Choices = Choices { forward: true, reorder: true };
+
     #[test]
     fn a_graph_is_refused_or_has_another_size() {
-        let sizes = [(128, 256), (128, 384), (40, 60), (1, 0)];
+        let sizes = [(128, 256), (128, 384), (40, 60), (128, 190), (1, 0)];
         for ((name, graph), size) in super::all().iter().zip(sizes) {
             assert_eq!((graph.blocks.len(), graph.arms.len()), size, "{name}");
+        }
+        for (size, (name, graph)) in
+            SIZES.into_iter().flat_map(|size| GROWING.map(|kind| (size, kind)))
+        {
+            assert_eq!(graph(size).blocks.len(), size, "{name}");
         }
         for graph in super::largest() {
             assert_eq!(reading::read(&graph.bytes()), Ok(graph));
@@ -97,8 +150,16 @@ mod tests {
     #[test]
     fn a_pass_has_nothing_to_do_on_a_graph_of_many_blocks() {
         for (name, graph) in super::all().into_iter().take(3) {
-            let laid = model::lay(&graph, Choices { forward: true, reorder: false }, None);
+            let laid = model::lay(&graph, BOTH, None);
             assert!(laid.moved > 0 && laid.bridges > 0 && laid.split < 256, "{name}");
+            assert!(model::account(&graph, BOTH).reordered, "{name}");
         }
+    }
+
+    #[test]
+    fn no_loop_of_a_nest_is_turned_or_its_weights_end_before_the_largest() {
+        let nest = super::nest(128);
+        assert!(model::account(&nest, BOTH).backs.iter().any(|back| back.turned.is_some()));
+        assert!(nest.blocks.iter().any(|block| block.weight == u64::MAX));
     }
 }

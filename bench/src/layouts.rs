@@ -1,4 +1,4 @@
-//! A whole layout call, forwarding on and reordering off, against the passes of the Rust text.
+//! A whole layout call against the passes of the Rust text.
 //!
 //! The archive's side reads the records, lays them and writes the laid ones. The Rust's side is its
 //! `forward`, `blocks` and `heads` alone: every time on a function built anew, whose building is not
@@ -11,13 +11,12 @@ use judge::records::{Choices, Graph, LONGEST};
 use std::hint::black_box;
 
 const REPETITIONS: usize = 10_000;
-const CHOICES: Choices = Choices { forward: true, reorder: false };
 
-pub fn timed(archive: Archive, graph: &Graph) -> Shortest {
+pub fn timed(archive: Archive, graph: &Graph, choices: Choices) -> Shortest {
     let input = graph.bytes();
     let mut out = vec![0; 2 * LONGEST];
-    let answer = (archive.layout_plain)(&input, CHOICES.forward, &mut out);
-    let (expected, written) = reading::given_room(oracle::lay(graph, CHOICES), out.len());
+    let answer = (archive.layout_blocks)(&input, choices, &mut out);
+    let (expected, written) = reading::given_room(oracle::lay(graph, choices), out.len());
     assert_eq!(answer, expected);
     assert!(out.starts_with(&written), "both lay the same");
     Shortest::of(
@@ -25,12 +24,12 @@ pub fn timed(archive: Archive, graph: &Graph) -> Shortest {
         || {
             once(|| {
                 let (input, out) = (black_box(&input), black_box(&mut out));
-                black_box((archive.layout_plain)(input, CHOICES.forward, out))
+                black_box((archive.layout_blocks)(input, choices, out))
             })
         },
         || {
             let mut built = black_box(oracle::built(graph));
-            once(|| black_box(built.pass(CHOICES)))
+            once(|| black_box(built.pass(choices)))
         },
     )
 }

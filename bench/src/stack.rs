@@ -5,7 +5,7 @@
 
 use crate::archive::Archive;
 use crate::graphs;
-use judge::records::LONGEST;
+use judge::records::{Choices, LONGEST};
 use std::ffi::{c_int, c_ulong, c_void};
 use std::hint::black_box;
 use std::ptr;
@@ -38,7 +38,7 @@ struct Page([u8; 4096]);
 struct Told {
     archive: Archive,
     input: Vec<u8>,
-    forward: bool,
+    choices: Choices,
     out: Vec<u8>,
     from: usize,
 }
@@ -48,7 +48,7 @@ extern "C" fn start(told: *mut c_void) -> *mut c_void {
     let told = unsafe { &mut *told.cast::<Told>() };
     let here = 0_u8;
     told.from = ptr::from_ref(black_box(&here)).addr();
-    black_box((told.archive.layout_plain)(&told.input, told.forward, &mut told.out));
+    black_box((told.archive.layout_blocks)(&told.input, told.choices, &mut told.out));
     ptr::null_mut()
 }
 
@@ -82,9 +82,9 @@ fn used(told: &mut Told) -> usize {
 pub fn deepest(archive: Archive) -> (usize, usize) {
     let (mut count, mut most) = (0, 0);
     for graph in graphs::largest() {
-        for forward in [false, true] {
+        for choices in Choices::ALL {
             let (input, out) = (graph.bytes(), vec![0; 2 * LONGEST]);
-            most = most.max(used(&mut Told { archive, input, forward, out, from: 0 }));
+            most = most.max(used(&mut Told { archive, input, choices, out, from: 0 }));
         }
         count += 1;
     }

@@ -24,12 +24,22 @@ impl Shortest {
         shortest
     }
 
-    /// A line of the table.
+    /// A line of a table.
     pub fn row(&self, name: &str) -> String {
-        let (proved, rust) = (self.proved.as_secs_f64(), self.rust.as_secs_f64());
-        let ratio = proved / rust;
-        format!("{name:<36}{:>9.2} us{:>9.2} us{ratio:>8.2}", proved * 1e6, rust * 1e6)
+        self.row_a_part(name, 1)
     }
+
+    /// A line of a table that has the time of one of so many parts.
+    pub fn row_a_part(&self, name: &str, parts: usize) -> String {
+        let micros = |time: Duration| time.as_secs_f64() * 1e6 / parts as f64;
+        let (proved, rust) = (micros(self.proved), micros(self.rust));
+        format!("{name:<56}{proved:>9.3} us{rust:>9.3} us{:>8.2}", proved / rust)
+    }
+}
+
+/// The line over a table.
+pub fn heading(what: &str) -> String {
+    format!("{what:<56}{:>12}{:>12}{:>8}", "proved", "Rust", "ratio")
 }
 
 /// How long some work takes. What it gives is dropped after the time is taken.

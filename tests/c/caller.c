@@ -12,8 +12,8 @@ long write(int file, const void *from, size_t len);
 
 enum { GUARD = 32, MOST = 1 << 17 };
 
-/* The calls by number. */
-enum { WRITE_BACK, PLAIN, PLAIN_FORWARDED, CALLS };
+/* The calls by number: those under WRITE_BACK are layouts, with one bit for each choice. */
+enum { FORWARD = 1, REORDER = 2, WRITE_BACK = 4, CALLS };
 
 /* What a request begins with. */
 typedef struct Head {
@@ -50,9 +50,10 @@ static bool give(const void *from, size_t len)
 static Answer made(Head head)
 {
     size_t input_len = (size_t)head.input_len, lent_len = (size_t)head.lent_len;
+    bool forward = (head.call & FORWARD) != 0, reorder = (head.call & REORDER) != 0;
     if (head.call == WRITE_BACK)
         return layout_write_back(input, input_len, lent + GUARD, lent_len);
-    return layout_plain(input, input_len, head.call == PLAIN_FORWARDED, lent + GUARD, lent_len);
+    return layout_blocks(input, input_len, forward, reorder, lent + GUARD, lent_len);
 }
 
 int main(void)

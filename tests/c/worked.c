@@ -1,4 +1,4 @@
-/* The worked example of document 01 from C: written back whole, laid in the plain order, and
+/* The worked example of document 01 from C: written back whole, laid by all four choices, and
  * refused when damaged.
  *
  * It ends with 0, or with the number of the first check that failed.
@@ -30,6 +30,18 @@ static const uint8_t plain[FILE_LEN] = {
     2, 1, 3, 0, 0, 0, 0, 0,   WEIGHT(0x10, 0x27, 0x00), /* 1 to 3 */
     2, 1, 2, 0, 0, 0, 0, 0,   WEIGHT(0x90, 0x5f, 0x01), /* 1 to 2 */
     2, 2, 1, 0, 0, 0, 0, 0,   WEIGHT(0x90, 0x5f, 0x01), /* 2 to 1 */
+};
+
+/* The same reordered, as document 01 lists it: the loop is turned, and its test comes last. */
+static const uint8_t turned[FILE_LEN] = {
+    1, 0, 1, 1, 0, 1, 0, 0,   WEIGHT(0x10, 0x27, 0x00), /* block 0, a jump */
+    1, 2, 128, 1, 0, 0, 0, 0, WEIGHT(0x90, 0x5f, 0x01), /* block 2, a head, falls into the next */
+    1, 1, 0, 2, 0, 2, 0, 0,   WEIGHT(0xa0, 0x86, 0x01), /* block 1, a branch */
+    1, 3, 0, 1, 0, 0, 0, 0,   WEIGHT(0x10, 0x27, 0x00), /* block 3, goes nowhere */
+    2, 0, 1, 0, 0, 0, 0, 0,   WEIGHT(0x10, 0x27, 0x00), /* 0 to 1 */
+    2, 2, 1, 0, 0, 0, 0, 0,   WEIGHT(0x90, 0x5f, 0x01), /* 2 to 1 */
+    2, 1, 2, 0, 0, 0, 0, 0,   WEIGHT(0x90, 0x5f, 0x01), /* 1 to 2 */
+    2, 1, 3, 0, 0, 0, 0, 0,   WEIGHT(0x10, 0x27, 0x00), /* 1 to 3 */
 };
 
 /* The worked example with its last arm to a number that is not listed. */
@@ -85,34 +97,33 @@ static int check_write_back(void)
     return kept_from(0) ? 0 : 5;
 }
 
-static int check_plain(bool forward)
+static int check_layout(bool forward, bool reorder)
 {
     fill();
-    if (!same(layout_plain(worked, FILE_LEN, forward, lent, LENT), done))
+    if (!same(layout_blocks(worked, FILE_LEN, forward, reorder, lent, LENT), done))
         return 11;
-    if (!written(plain))
+    if (!written(reorder ? turned : plain))
         return 12;
     fill();
-    if (!same(layout_plain(damaged, FILE_LEN, forward, lent, LENT), refused))
+    if (!same(layout_blocks(damaged, FILE_LEN, forward, reorder, lent, LENT), refused))
         return 13;
-    if (!same(layout_plain(worked, FILE_LEN, forward, lent, FILE_LEN - 1), short_room))
+    if (!same(layout_blocks(worked, FILE_LEN, forward, reorder, lent, FILE_LEN - 1), short_room))
         return 14;
     return kept_from(0) ? 0 : 15;
 }
 
 /* The document's P5, 0 to 1 to 2 with 1 a way through: one arm moves, if forwarding is asked for. */
-static int check_forward(void)
+static int check_forward(bool reorder)
 {
     static const uint8_t p5[5 * 16] = {
         1, 0, 1, 1, 0, 0, 0, 0, WEIGHT(10, 0, 0), 1, 1, 0, 0, 0, 0, 0, 0, WEIGHT(10, 0, 0),
         1, 2, 0, 1, 0, 0, 0, 0, WEIGHT(10, 0, 0), 2, 0, 1, 0, 0, 0, 0, 0, WEIGHT(10, 0, 0),
         2, 1, 2, 0, 0, 0, 0, 0, WEIGHT(10, 0, 0),
     };
-    if (!same(layout_plain(p5, sizeof p5, false, lent, LENT), (Answer){0, 0, 0, 80, 3, 0, 0, 256}))
+    static const Answer kept = {0, 0, 0, 80, 3, 0, 0, 256}, moved = {0, 0, 0, 64, 3, 0, 1, 256};
+    if (!same(layout_blocks(p5, sizeof p5, false, reorder, lent, LENT), kept))
         return 21;
-    if (!same(layout_plain(p5, sizeof p5, true, lent, LENT), (Answer){0, 0, 0, 64, 3, 0, 1, 256}))
-        return 22;
-    return 0;
+    return same(layout_blocks(p5, sizeof p5, true, reorder, lent, LENT), moved) ? 0 : 22;
 }
 
 int main(void)
@@ -122,9 +133,10 @@ int main(void)
     damaged[7 * 16 + 2] = 99;
 
     int failed = check_write_back();
-    if (failed == 0)
-        failed = check_plain(false);
-    if (failed == 0)
-        failed = check_plain(true);
-    return failed != 0 ? failed : check_forward();
+    for (int reorder = 0; reorder < 2 && failed == 0; reorder++) {
+        failed = check_forward(reorder);
+        for (int forward = 0; forward < 2 && failed == 0; forward++)
+            failed = check_layout(forward, reorder);
+    }
+    return failed;
 }

@@ -18,7 +18,7 @@ unfolding beginOf
 begin-before ends zero h = absurd (h refl)
 begin-before ends (suc k) h = let e : suc k - 1 ≡ k = omega arith in rw e refl
 
-next-begin : (ends : List ℕ) (j : ℕ) → beginOf ends (suc j) ≡ getD ends j 0
+pub next-begin : (ends : List ℕ) (j : ℕ) → beginOf ends (suc j) ≡ getD ends j 0
 unfolding beginOf
 next-begin ends j = refl
 

@@ -16,15 +16,13 @@ use Rattle.rules.specs.Graph as graph
 use Rattle.rules.specs.Graph.{numbersOf, coldAt, isCold}
 use Rattle.rules.specs.Within.{armTotal}
 use Rattle.rules.specs.Spread.{warmEntry, spread}
-use Rattle.rules.specs.PlainOrder.{order}
 use Rattle.rules.specs.Split.{splits, warmPart, coldPart, partition}
-use Rattle.rules.specs.Laid.{readied}
+use Rattle.rules.specs.Laid.{ordered, readied}
 use Rattle.rules.specs.Exits.{Place, edges, laidBlock, bridgeOf, newAfter, nextIn, layPart, bridges, warmPlaces, lay, splitPlace, laidGraph}
 use Rattle.rules.proofs.Membership.{In, In-map, and-r, any→, →keep, map-append}
 use Rattle.rules.proofs.Counting.{count, Once, In→count, count→In}
 use Rattle.rules.proofs.Wholeness.{Whole, block-in}
 use Rattle.rules.proofs.Forwarded.{spread-whole}
-use Rattle.rules.proofs.PlainOnce.{plain-once}
 use Rattle.rules.proofs.Bounds.{readied-total}
 use Rattle.records.specs.declared.Blocks.{Blocks}
 use Rattle.records.specs.declared.Arms.{Arms}
@@ -33,8 +31,8 @@ use Rattle.records.specs.declared.Order.{Order}
 use Rattle.records.specs.Tables.{tabled, Stands, inOrder}
 use Rattle.records.proofs.TableLaws.{upTo-length}
 use Rattle.records.proofs.StandLaws.{once-listed, in-listed, in-tables, find-in, numbers-are}
-use Rattle.walks.specs.Lent as walks
-use Rattle.walks.specs.Lent.{LentMarked, Ordered}
+use Rattle.traces.specs.Rounds as traces
+use Rattle.traces.specs.Rounds.{Lent}
 use Rattle.cold.specs.declared.Parts.{Parts}
 use Rattle.cold.specs.Lent as cold
 use Rattle.cold.specs.Lent.{withMarks, Spreads, SpreadTo, OverMarks, Divides, PartedBy}
@@ -42,8 +40,8 @@ use Rattle.exits.specs.declared.Counts.{Counts}
 use Rattle.exits.specs.Lays as exits
 use Rattle.exits.specs.Lays.{layAt, armsTo, Fits, LaidOf, Lays}
 use Rattle.exits.proofs.Turns.{order-length, order-get}
-use Rattle.layout.specs.Blocks.{splitAt, Over, Ready, PlacedOf}
-use Rattle.layout.proofs.OrderLaws.{get-in, once-places, partition-count, order-total}
+use Rattle.layout.specs.Blocks.{OrderedBy, splitAt, Over, Ready, PlacedOf}
+use Rattle.layout.proofs.OrderLaws.{ordered-once, get-in, once-places, partition-count, order-total}
 
 -- tables stand for their own graph
 pub stands-own : {n m : ℕ} {t : Graph} {g : graph.Graph} → Stands n m t g → Stands n m t (tabled t)
@@ -121,9 +119,9 @@ module _ (t s : Graph) (stands : Stands most.numbers most.mostArms s (spread (ta
   unfolding readied
   spread-total = omega (arith, ap armTotal (stands .graph-is), readied-total false (tabled t), total)
 
-  module _ (o : Order) (oe : inOrder o ≡ order (tabled s)) (ol : o .len ≡ s .blocks) where
+  module _ (reorder : Bool) (o : Order) (oe : inOrder o ≡ ordered reorder (tabled s)) (ol : o .len ≡ s .blocks) where
     order-count : (m : ℕ) → count m (inOrder o) ≡ count m (numbersOf (tabled s))
-    order-count m = ap (count m) oe ∙ plain-once (tabled s) whole once m
+    order-count m = ap (count m) oe ∙ ordered-once reorder (tabled s) whole once m
 
     pub order-in : (n : ℕ) → In n (inOrder o) → In n (numbersOf (tabled s))
     order-in n i = count→In n (numbersOf (tabled s)) (omega (arith, order-count n, In→count n (inOrder o) i))
@@ -263,10 +261,10 @@ module _ (t s : Graph) (stands : Stands most.numbers most.mostArms s (spread (ta
             (λ e. rw (le-ltb cut most.blocks (omega (arith, none e)), e))
 
         -- THE LAW
-        pub placed-of : (split : ℕ) → split ≡ splitAt (b .place) (p .block) cut → PlacedOf (tabled t) b a x (record { laid = l; split = split })
+        pub placed-of : (split : ℕ) → split ≡ splitAt (b .place) (p .block) cut → PlacedOf reorder (tabled t) b a x (record { laid = l; split = split })
         placed-of split e =
-            let f : inOrder o ≡ order (spread (tabled t)) = oe ∙ ap order (stands .graph-is) in
-            let k : layAt (tabled s) (inOrder p) cut ≡ lay (spread (tabled t)) (order (spread (tabled t))) = lay-is ∙ ap₂ lay (stands .graph-is) f in
+            let f : inOrder o ≡ ordered reorder (spread (tabled t)) = oe ∙ ap (ordered reorder) (stands .graph-is) in
+            let k : layAt (tabled s) (inOrder p) cut ≡ lay (spread (tabled t)) (ordered reorder (spread (tabled t))) = lay-is ∙ ap₂ lay (stands .graph-is) f in
             record {
               places = h .places ∙ k;
               stands = subst (λ (y : List Place). Stands most.blocks most.arms laid (laidGraph y)) k (h .stands);
@@ -310,8 +308,23 @@ module _ {t : Graph} {listed marks ends weight : List ℕ} {a : Arms} {n : ℕ} 
     spread-whole-own : Whole (tabled s)
     spread-whole-own = whole t s spread-stands (r .whole) (r .total)
 
-    over-order : walks.Over s listed (a .first) (a .count) (a .to) n
-    over-order = record { listed-is = e .listed-is; first-is = over-spread .first-is; count-is = over-spread .count-is; to-is = over-spread .to-is; blocks-is = e .blocks-is }
+    over-order : traces.Over s listed m weight (a .first) (a .count) (a .to) (a .weight) n
+    over-order = record {
+      flows = record {
+        over = record {
+          marks-is = refl;
+          weight-is = e .weight-is;
+          first-is = over-spread .first-is;
+          count-is = over-spread .count-is;
+          to-is = over-spread .to-is;
+          heft-is = ap (λ (x : Arms). x .weight) (e .arms-are);
+        };
+        stands = own;
+        whole = spread-whole-own;
+      };
+      listed-is = e .listed-is;
+      blocks-is = e .blocks-is;
+    }
 
     over-marks : OverMarks s listed m n
     over-marks = record { listed-is = e .listed-is; marks-is = refl; blocks-is = e .blocks-is }
@@ -319,15 +332,15 @@ module _ {t : Graph} {listed marks ends weight : List ℕ} {a : Arms} {n : ℕ} 
     over-lay : exits.Over s m ends weight a
     over-lay = record { marks-is = refl; ends-is = e .ends-is; weight-is = e .weight-is; arms-are = e .arms-are }
 
-    pub can-order : LentMarked most.numbers most.mostArms listed m (a .first) (a .count) (a .to) n
-    can-order = record { lent = record { t = s; over = over-order; stands = own; whole = spread-whole-own }; marks-is = refl }
+    pub can-order : Lent listed m weight (a .first) (a .count) (a .to) (a .weight) n
+    can-order = record { graph = s; over = over-order }
 
-    module _ (o : Order) (os : Ordered listed m (a .first) (a .count) (a .to) n o) where
-      order-is : (inOrder o ≡ order (tabled s)) × (o .len ≡ s .blocks)
-      order-is = os s over-order refl own spread-whole-own
+    module _ (reorder : Bool) (o : Order) (os : OrderedBy reorder listed m weight (a .first) (a .count) (a .to) (a .weight) n o) where
+      order-is : (inOrder o ≡ ordered reorder (tabled s)) × (o .len ≡ s .blocks)
+      order-is = os s over-order
 
       within-own : cold.Within s o
-      within-own = order-in t s spread-stands (r .whole) (r .total) o (order-is .0) (order-is .1)
+      within-own = order-in t s spread-stands (r .whole) (r .total) reorder o (order-is .0) (order-is .1)
 
       pub can-divide : Divides listed m n o
       can-divide = record { graph = s; over = over-marks; stands = own; within = within-own; fits = omega (arith, order-is .1, r .stands .few) }
@@ -337,7 +350,7 @@ module _ {t : Graph} {listed marks ends weight : List ℕ} {a : Arms} {n : ℕ} 
         parts-are = ps s over-marks own within-own
 
         fits-own : Fits s (p .order) (p .split)
-        fits-own = layable t s spread-stands (r .whole) (r .total) o (order-is .0) (order-is .1) (p .order) (p .split) (parts-are .0 .0) (parts-are .0 .1) (parts-are .1) (parts-are .0 .2)
+        fits-own = layable t s spread-stands (r .whole) (r .total) reorder o (order-is .0) (order-is .1) (p .order) (p .split) (parts-are .0 .0) (parts-are .0 .1) (parts-are .1) (parts-are .0 .2)
 
         pub can-lay : exits.Layable m ends weight a (p .order) (p .split)
         can-lay = record { tables = s; over = over-lay; fits = fits-own }
@@ -346,8 +359,8 @@ module _ {t : Graph} {listed marks ends weight : List ℕ} {a : Arms} {n : ℕ} 
           pub can-split : (length (b .place) ≡ most.blocks) × (length (p .order .block) ≡ most.blocks) × (p .split < most.blocks → 0 < getD (b .place) (getD (p .order .block) (p .split) 0) 0)
           can-split =
               let h = ls s over-lay fits-own in
-              (h .stands .blocks-sized .place, parts-are .0 .2, split-found t s spread-stands (r .whole) (r .total) o (order-is .0) (order-is .1) (p .order) (p .split) (parts-are .0 .0) (parts-are .0 .1) (parts-are .1) (parts-are .0 .2) b c x l h)
+              (h .stands .blocks-sized .place, parts-are .0 .2, split-found t s spread-stands (r .whole) (r .total) reorder o (order-is .0) (order-is .1) (p .order) (p .split) (parts-are .0 .0) (parts-are .0 .1) (parts-are .1) (parts-are .0 .2) b c x l h)
 
-          pub all-placed : (split : ℕ) → split ≡ splitAt (b .place) (p .order .block) (p .split) → PlacedOf (tabled t) b c x (record { laid = l; split = split })
+          pub all-placed : (split : ℕ) → split ≡ splitAt (b .place) (p .order .block) (p .split) → PlacedOf reorder (tabled t) b c x (record { laid = l; split = split })
           all-placed =
-              placed-of t s spread-stands (r .whole) (r .total) o (order-is .0) (order-is .1) (p .order) (p .split) (parts-are .0 .0) (parts-are .0 .1) (parts-are .1) (parts-are .0 .2) b c x l (ls s over-lay fits-own)
+              placed-of t s spread-stands (r .whole) (r .total) reorder o (order-is .0) (order-is .1) (p .order) (p .split) (parts-are .0 .0) (parts-are .0 .1) (parts-are .1) (parts-are .0 .2) b c x l (ls s over-lay fits-own)

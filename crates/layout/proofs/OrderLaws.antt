@@ -8,18 +8,26 @@ use mathlib.Core.List.{List, [], _∷_, _++_}
 use lib.Dec.{eqb, eqb-refl}
 use lib.ListN.{length, getD, take}
 use lib.Seq.{take-suc, take-all}
-use Rattle.rules.specs.Graph as graph
 use Rattle.rules.specs.Graph.{Graph, numbersOf, coldAt}
 use Rattle.rules.specs.Within.{armTotal}
+use Rattle.rules.specs.Laid.{ordered}
 use Rattle.rules.specs.Split.{splits, warmPart, coldPart, partition}
 use Rattle.rules.proofs.Membership.{In, T→≡}
 use Rattle.rules.proofs.Counting.{one, tally, tally-split, count, Once, In→count, sumBy, perm-sum}
+use Rattle.rules.proofs.Wholeness.{Whole}
+use Rattle.rules.proofs.PlainOnce.{plain-once}
+use Rattle.rules.proofs.JoinOnce.{joined-once}
 use Rattle.records.specs.declared.Blocks.{Blocks}
 use Rattle.records.specs.declared.Arms.{Arms}
-use Rattle.records.specs.Tables.{blockAt, upTo}
+use Rattle.records.specs.declared.Order.{Order}
+use Rattle.records.specs.Tables.{blockAt, upTo, tabled}
 use Rattle.records.proofs.TableLaws.{leaves-count}
 use Rattle.records.proofs.StandLaws.{numbers-more}
+use Rattle.walks.specs.Lent.{Ordered}
+use Rattle.traces.specs.Rounds.{Joined}
+use Rattle.traces.proofs.JoinLaws.{walks-over}
 use Rattle.exits.specs.Lays.{armsTo}
+use Rattle.layout.specs.Blocks.{OrderedBy}
 
 -- ---- lists with each number once
 pub get-in : (l : List ℕ) (i : ℕ) → i < length l → In (getD l i 0) l
@@ -34,6 +42,12 @@ once-places (x ∷ l) o zero zero h k e = refl
 once-places (x ∷ l) o zero (suc j) h k e = absurd (omega (arith, o x, ap one (T→≡ (eqb x x) (eqb-refl x)), In→count x l (subst (λ (y : ℕ). In y l) (sym e) (get-in l j (omega (arith, k))))))
 once-places (x ∷ l) o (suc i) zero h k e = absurd (omega (arith, o x, ap one (T→≡ (eqb x x) (eqb-refl x)), In→count x l (subst (λ (y : ℕ). In y l) e (get-in l i (omega (arith, h))))))
 once-places (x ∷ l) o (suc i) (suc j) h k e = ap suc (once-places l (λ n. omega (arith, o n)) i j (omega (arith, h)) (omega (arith, k)) e)
+
+-- ---- reordered or not
+pub ordered-once : (reorder : Bool) (g : Graph) → Whole g → Once (numbersOf g) → (m : ℕ) → count m (ordered reorder g) ≡ count m (numbersOf g)
+unfolding ordered
+ordered-once true g w d m = joined-once g w d m
+ordered-once false g w d m = plain-once g w d m
 
 -- ---- warm, then cold
 pub partition-count : (g : Graph) (o : List ℕ) (m : ℕ) → count m (partition g o) ≡ count m o
@@ -84,3 +98,15 @@ pub order-total : (b : Blocks) (a : Arms) (n : ℕ) (o : List ℕ) → ((m : ℕ
 order-total b a n o h =
     arms-sum (a .count) o (length o) (omega arith) ∙ ap (sumBy (λ (m : ℕ). getD (a .count) m 0)) (take-all (length o) o (omega arith))
     ∙ perm-sum (λ (m : ℕ). getD (a .count) m 0) o (numbersOf (upTo b a n)) h ∙ total-sum b a n
+
+-- ---- by traces, or by the walk alone
+module _ (reorder : Bool) {listed marks weight first count′ to heft : List ℕ} {n : ℕ} (r : Order) where
+  pub by-traces : reorder ≡ true → Joined listed marks weight first count′ to heft n r → OrderedBy reorder listed marks weight first count′ to heft n r
+  unfolding ordered
+  by-traces e j t o = let z = j t o in (z .0 ∙ ap (λ (b : Bool). ordered b (tabled t)) (sym e), z .1)
+
+  pub by-walk : reorder ≡ false → Ordered listed marks first count′ to n r → OrderedBy reorder listed marks weight first count′ to heft n r
+  unfolding ordered
+  by-walk e w t o =
+      let z = w t (walks-over listed marks weight first count′ to heft n t o) (o .flows .over .marks-is) (o .flows .stands) (o .flows .whole) in
+      (z .0 ∙ ap (λ (b : Bool). ordered b (tabled t)) (sym e), z .1)

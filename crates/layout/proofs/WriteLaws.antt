@@ -3,6 +3,7 @@ use Prim.Native.Nat.{ℕ, zero, suc, _+_, _*_, _≤_, _<_}
 use native.Mathlib.Omega.{arith}
 use mathlib.Core.Path.{_≡_, refl, sym, ap, ap₂, _∙_, subst}
 use mathlib.Core.Logic.{inl}
+use mathlib.Core.Bool.{Bool}
 use mathlib.Core.List.{List, _++_}
 use lib.ListN.{length, getD, drop, length-map}
 use borrow.Author.Tests.{lt-ltb, le-ltb}
@@ -31,8 +32,8 @@ use Rattle.laid.specs.Written as laid
 use Rattle.laid.specs.Written.{Small, HeadsOf}
 use Rattle.laid.proofs.RecordLaws.{only-places}
 use Rattle.layout.specs.declared.blocks.Placed.{Placed}
-use Rattle.layout.specs.Blocks.{plain, plainSplit, PlacedOf}
-use Rattle.layout.specs.Plain.{laidOut, plainOf, Fit}
+use Rattle.layout.specs.Blocks.{placesBy, splitBy, PlacedOf}
+use Rattle.layout.specs.Outcomes.{laidOut, outcomeBy, Fit}
 use Rattle.layout.proofs.BlockLaws.{stands-own}
 
 tables-in : (b : Blocks) (a : Arms) (i n : ℕ) → i < n → In (blockAt b a (getD (b .listed) i 0)) (upTo b a n)
@@ -46,7 +47,7 @@ small-block : (b : Blocks) (a : Arms) (n : ℕ) (p : Place) → blockAt b a n �
 unfolding blockAt
 small-block b a n p e h = subst (λ (x : graph.Block). x .marks < most.marksBelow) (sym e) h
 
-module _ {g : graph.Graph} {b : Blocks} {a : Arms} {exits : List ℕ} {p : Placed} (h : PlacedOf g b a exits p) where
+module _ {reorder : Bool} {g : graph.Graph} {b : Blocks} {a : Arms} {exits : List ℕ} {p : Placed} (h : PlacedOf reorder g b a exits p) where
   abbrev n : ℕ
   n = p .laid .places
 
@@ -61,7 +62,7 @@ module _ {g : graph.Graph} {b : Blocks} {a : Arms} {exits : List ℕ} {p : Place
   abbrev only : Blocks
   only = onlyBlocks (b .listed) (b .marks) (b .ends) (b .weight)
 
-  own : Stands most.blocks most.arms t (tabled t)
+  pub own : Stands most.blocks most.arms (record { blocks = p .laid .places; arms = p .laid .arms; b = b; a = a }) (tabled (record { blocks = p .laid .places; arms = p .laid .arms; b = b; a = a }))
   own = stands-own (h .stands)
 
   total : p .laid .arms ≡ armTotal (tabled t)
@@ -71,33 +72,33 @@ module _ {g : graph.Graph} {b : Blocks} {a : Arms} {exits : List ℕ} {p : Place
   unfolding tabled
   only-is = only-blocks b a n
 
-  places-long : length (plain g) ≡ n
+  places-long : length (placesBy reorder g) ≡ n
   unfolding tabled laidGraph
-  places-long = sym (length-map (plain g) (λ (x : Place). x .block)) ∙ ap length (sym (h .stands .graph-is)) ∙ upTo-length b a n
+  places-long = sym (length-map (placesBy reorder g) (λ (x : Place). x .block)) ∙ ap length (sym (h .stands .graph-is)) ∙ upTo-length b a n
 
-  needed-is : length (laidBytes (plainSplit g) (plain g)) ≡ bytes
-  needed-is = omega (arith, laid-length (plainSplit g) (plain g), places-long, h .total)
+  needed-is : length (laidBytes (splitBy reorder g) (placesBy reorder g)) ≡ bytes
+  needed-is = omega (arith, laid-length (splitBy reorder g) (placesBy reorder g), places-long, h .total)
 
   pub laid-few : (p .laid .places ≤ most.blocks) × (p .laid .arms ≤ most.arms)
   laid-few = (h .stands .few, h .few-arms)
 
   pub laid-short : (moved : ℕ) (d : List ℕ) → length d < most.size * (p .laid .places + p .laid .arms)
-      → (refusal 10 0 (most.size * (p .laid .places + p .laid .arms)) ≡ plainOf g moved d .answer) × (d ≡ plainOf g moved d .lent)
-  unfolding plainOf refused
+      → (refusal 10 0 (most.size * (p .laid .places + p .laid .arms)) ≡ outcomeBy reorder g moved d .answer) × (d ≡ outcomeBy reorder g moved d .lent)
+  unfolding outcomeBy refused
   laid-short moved d l = rw (needed-is, lt-ltb (length d) bytes l) (refl, refl)
 
   pub laid-room : (moved : ℕ) (d o : List ℕ) (k : ℕ) → length g ≡ k → most.size * (p .laid .places + p .laid .arms) ≤ length d
       → o ≡ laidBytes (p .split) (placesTo (onlyBlocks (b .listed) (b .marks) (b .ends) (b .weight)) a exits (p .laid .places))
       ++ drop (length (laidBytes (p .split) (placesTo (onlyBlocks (b .listed) (b .marks) (b .ends) (b .weight)) a exits (p .laid .places)))) d
-      → (laidOut (most.size * (p .laid .places + p .laid .arms)) k (p .laid .bridges) moved (p .split) ≡ plainOf g moved d .answer) × (o ≡ plainOf g moved d .lent)
-  unfolding plainOf
+      → (laidOut (most.size * (p .laid .places + p .laid .arms)) k (p .laid .bridges) moved (p .split) ≡ outcomeBy reorder g moved d .answer) × (o ≡ outcomeBy reorder g moved d .lent)
+  unfolding outcomeBy
   laid-room moved d o k q l e =
-      let w : laidBytes (p .split) (placesTo only a exits n) ≡ laidBytes (plainSplit g) (plain g) = ap₂ laidBytes (h .split-is) (only-places b a exits n ∙ h .places) in
+      let w : laidBytes (p .split) (placesTo only a exits n) ≡ laidBytes (splitBy reorder g) (placesBy reorder g) = ap₂ laidBytes (h .split-is) (only-places b a exits n ∙ h .places) in
       rw (needed-is, le-ltb (length d) bytes l)
       (rw (q, h .bridged, h .split-is), e ∙ ap (λ (x : List ℕ). x ++ drop (length x) d) w ∙ rw needed-is)
 
-  module _ (f : Fit g) where
-    whole : Whole (tabled t)
+  module _ (f : Fit reorder g) where
+    pub whole : Whole (tabled (record { blocks = p .laid .places; arms = p .laid .arms; b = b; a = a }))
     whole = subst Whole (sym (h .stands .graph-is)) (f .whole)
 
     -- heads can be looked for
@@ -117,7 +118,7 @@ module _ {g : graph.Graph} {b : Blocks} {a : Arms} {exits : List ℕ} {p : Place
     unfolding tabled laidGraph
     small i k =
         let x = tables-in b a i n k in
-        let y = map-In (λ (q : Place). q .block) (plain g) (blockAt b a (getD (b .listed) i 0)) (subst (λ (l : graph.Graph). In (blockAt b a (getD (b .listed) i 0)) l) (h .stands .graph-is) x) in
+        let y = map-In (λ (q : Place). q .block) (placesBy reorder g) (blockAt b a (getD (b .listed) i 0)) (subst (λ (l : graph.Graph). In (blockAt b a (getD (b .listed) i 0)) l) (h .stands .graph-is) x) in
         small-block b a (getD (b .listed) i 0) (y .0) (y .2) (f .low (y .0) (y .1))
 
     pub can-write : (room : ℕ) → most.size * (p .laid .places + p .laid .arms) ≤ room

@@ -1,4 +1,4 @@
-// The passes from a graph in tables to its places, with reordering off.
+// The passes from a graph in tables to its places.
 use exits::Counts;
 use limits::ARMS;
 use limits::BLOCKS;
@@ -6,11 +6,11 @@ use records::Order;
 ghost use mathlib.Core.Path.{_≡_};
 ghost use Prim.Native.Nat.{_<_};
 ghost use lib.ListN.{length, getD};
-ghost use Rattle.limits.specs.Limits.{numbers, mostArms, blocks};
+ghost use Rattle.limits.specs.Limits.{blocks};
 ghost use Rattle.records.specs.Tables.{blockTables, armTables};
-ghost use Rattle.walks.specs.Lent.{LentMarked, Ordered};
+ghost use Rattle.traces.specs.Rounds.{Lent};
 ghost use Rattle.exits.specs.Lays.{Unlaid};
-ghost use Rattle.layout.specs.Blocks.{splitAt, Placeable, Places};
+ghost use Rattle.layout.specs.Blocks.{splitAt, OrderedBy, Placeable, Places};
 
 // How much is laid, and the place of its cold part's first block.
 pub struct Placed {
@@ -29,23 +29,30 @@ fn split_place<'a>(place: &'a [u16; BLOCKS], order: &'a [u16; BLOCKS], split: us
     lists::entry_of(place, order[split]) - 1
 }
 
-// The order of the n listed blocks, before it is split.
+// The order of the n listed blocks, before it is split: their traces, or the plain order.
 fn ordered<'a>(
+    reorder: bool,
     listed: &'a [u16; BLOCKS],
     marks: &'a [u8; BLOCKS],
+    weight: &'a [u64; BLOCKS],
     first: &'a [u16; BLOCKS],
     count: &'a [u16; BLOCKS],
     to: &'a [u16; ARMS],
+    heft: &'a [u64; ARMS],
     n: usize,
 ) -> Order
-    requires { ⌜ LentMarked numbers mostArms (now listed) (now marks) (now first) (now count) (now to) n ⌝ }
-    ensures { λ r. ⌜ Ordered (now (listed .entry)) (now (marks .entry)) (now (first .entry)) (now (count .entry)) (now (to .entry)) n r ⌝ }
+    requires { ⌜ Lent (now listed) (now marks) (now weight) (now first) (now count) (now to) (now heft) n ⌝ }
+    ensures { λ r. ⌜ OrderedBy reorder (now (listed .entry)) (now (marks .entry)) (now (weight .entry)) (now (first .entry)) (now (count .entry)) (now (to .entry)) (now (heft .entry)) n r ⌝ }
 {
+    if reorder {
+        return traces::traces(listed, marks, weight, first, count, to, heft, n);
+    }
     walks::order(listed, marks, first, count, to, n)
 }
 
 // Spread, put in order, split, and left by exits with bridges.
 pub fn blocks<'a>(
+    reorder: bool,
     olisted: &'a [u16; BLOCKS],
     ofirst: &'a [u16; BLOCKS],
     ocount: &'a [u16; BLOCKS],
@@ -67,10 +74,20 @@ pub fn blocks<'a>(
 ) -> Placed
     requires { ⌜ Placeable (now olisted) (now marks) (now ends) (now weight) (armTables (now ofirst) (now ocount) (now oto) (now oargs) (now oheft)) n ⌝ }
     requires { ⌜ Unlaid (now listed) (now place) (now exits) (armTables (now first) (now count) (now to) (now args) (now heft)) ⌝ }
-    ensures { λ r. ⌜ Places (now (olisted .entry)) (now (marks .entry)) (now (ends .entry)) (now (weight .entry)) (armTables (now (ofirst .entry)) (now (ocount .entry)) (now (oto .entry)) (now (oargs .entry)) (now (oheft .entry))) n (blockTables (now (place .exit)) (now (listed .exit)) (now (marks .exit)) (now (ends .exit)) (now (weight .exit))) (armTables (now (first .exit)) (now (count .exit)) (now (to .exit)) (now (args .exit)) (now (heft .exit))) (now (exits .exit)) r ⌝ }
+    ensures { λ r. ⌜ Places reorder (now (olisted .entry)) (now (marks .entry)) (now (ends .entry)) (now (weight .entry)) (armTables (now (ofirst .entry)) (now (ocount .entry)) (now (oto .entry)) (now (oargs .entry)) (now (oheft .entry))) n (blockTables (now (place .exit)) (now (listed .exit)) (now (marks .exit)) (now (ends .exit)) (now (weight .exit))) (armTables (now (first .exit)) (now (count .exit)) (now (to .exit)) (now (args .exit)) (now (heft .exit))) (now (exits .exit)) r ⌝ }
 {
     cold::spread(olisted, ofirst, ocount, oto, n, marks);
-    let o = ordered(olisted, marks, ofirst, ocount, oto, n);
+    let o = ordered(
+        reorder,
+        olisted,
+        marks,
+        weight,
+        ofirst,
+        ocount,
+        oto,
+        oheft,
+        n,
+    );
     let parts = cold::partition(olisted, marks, n, o);
     let order = parts.order;
     let block = order.block;

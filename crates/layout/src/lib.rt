@@ -9,12 +9,11 @@ use limits::NO_SPLIT;
 use limits::RECORD;
 use rules::Answer;
 ghost use mathlib.Core.Path.{_≡_};
-ghost use mathlib.Core.Bool.{false};
 ghost use Rattle.rules.specs.Outcome.{refusal, writtenBack, writeBack, layoutBlocks};
 ghost use Rattle.records.specs.Tables.{blockTables, armTables, noBlocks, noArms};
 ghost use Rattle.forwarding.specs.Forwards.{Forwardable};
 ghost use Rattle.exits.specs.Lays.{Unlaid};
-ghost use Rattle.layout.specs.Plain.{ForwardsIf, laidOut, Layable, LaysOut, Writable, Writes};
+ghost use Rattle.layout.specs.Outcomes.{ForwardsIf, laidOut, Layable, LaysOut, Writable, Writes};
 
 // A refusal: zero in all that it does not name.
 fn refuse(number: u64, place: u64, needed: u64) -> Answer
@@ -65,7 +64,7 @@ fn laid_out(written: u64, blocks: u64, bridges: u64, moved: u64, split: u64) -> 
 }
 
 // The arms forwarded, if that is asked for, and how many moved.
-fn forwarded<'a>(
+pub fn forwarded<'a>(
     on: bool,
     listed: &'a [u16; BLOCKS],
     ends: &'a [u8; BLOCKS],
@@ -229,6 +228,7 @@ fn write_laid<'a>(
 
 // The n blocks of the tables laid and written, with tables to lay them in.
 fn lay_into<'a>(
+    reorder: bool,
     olisted: &'a [u16; BLOCKS],
     ofirst: &'a [u16; BLOCKS],
     ocount: &'a [u16; BLOCKS],
@@ -250,11 +250,12 @@ fn lay_into<'a>(
     heft: &mut [u64; ARMS],
     out: &mut [u8],
 ) -> Answer
-    requires { ⌜ Layable (now olisted) (now marks) (now ends) (now weight) (armTables (now ofirst) (now ocount) (now oto) (now oargs) (now oheft)) n ⌝ }
+    requires { ⌜ Layable reorder (now olisted) (now marks) (now ends) (now weight) (armTables (now ofirst) (now ocount) (now oto) (now oargs) (now oheft)) n ⌝ }
     requires { ⌜ Unlaid (now listed) (now place) (now exits) (armTables (now first) (now count) (now to) (now args) (now heft)) ⌝ }
-    ensures { λ r. ⌜ LaysOut (now (olisted .entry)) (now (marks .entry)) (now (ends .entry)) (now (weight .entry)) (armTables (now (ofirst .entry)) (now (ocount .entry)) (now (oto .entry)) (now (oargs .entry)) (now (oheft .entry))) n moved (now (out .entry)) (now (out .exit)) r ⌝ }
+    ensures { λ r. ⌜ LaysOut reorder (now (olisted .entry)) (now (marks .entry)) (now (ends .entry)) (now (weight .entry)) (armTables (now (ofirst .entry)) (now (ocount .entry)) (now (oto .entry)) (now (oargs .entry)) (now (oheft .entry))) n moved (now (out .entry)) (now (out .exit)) r ⌝ }
 {
     let p = blocks::blocks(
+        reorder,
         olisted,
         ofirst,
         ocount,
@@ -295,6 +296,7 @@ fn lay_into<'a>(
 
 // The n blocks of the tables laid and written.
 fn lay_out<'a>(
+    reorder: bool,
     olisted: &'a [u16; BLOCKS],
     ofirst: &'a [u16; BLOCKS],
     ocount: &'a [u16; BLOCKS],
@@ -308,8 +310,8 @@ fn lay_out<'a>(
     weight: &mut [u64; BLOCKS],
     out: &mut [u8],
 ) -> Answer
-    requires { ⌜ Layable (now olisted) (now marks) (now ends) (now weight) (armTables (now ofirst) (now ocount) (now oto) (now oargs) (now oheft)) n ⌝ }
-    ensures { λ r. ⌜ LaysOut (now (olisted .entry)) (now (marks .entry)) (now (ends .entry)) (now (weight .entry)) (armTables (now (ofirst .entry)) (now (ocount .entry)) (now (oto .entry)) (now (oargs .entry)) (now (oheft .entry))) n moved (now (out .entry)) (now (out .exit)) r ⌝ }
+    requires { ⌜ Layable reorder (now olisted) (now marks) (now ends) (now weight) (armTables (now ofirst) (now ocount) (now oto) (now oargs) (now oheft)) n ⌝ }
+    ensures { λ r. ⌜ LaysOut reorder (now (olisted .entry)) (now (marks .entry)) (now (ends .entry)) (now (weight .entry)) (armTables (now (ofirst .entry)) (now (ocount .entry)) (now (oto .entry)) (now (oargs .entry)) (now (oheft .entry))) n moved (now (out .entry)) (now (out .exit)) r ⌝ }
 {
     let mut listed: [u16; BLOCKS] = [0; BLOCKS];
     let mut place: [u16; BLOCKS] = [0; BLOCKS];
@@ -320,6 +322,7 @@ fn lay_out<'a>(
     let mut args: [u8; ARMS] = [0; ARMS];
     let mut heft: [u64; ARMS] = [0; ARMS];
     lay_into(
+        reorder,
         olisted,
         ofirst,
         ocount,
@@ -343,10 +346,11 @@ fn lay_out<'a>(
     )
 }
 
-// What `layout_plain` answers, with tables of zeros to read into.
-fn plain(
+// What `layout_blocks` answers, with tables of zeros to read into.
+fn lay_file(
     input: &[u8],
     on: bool,
+    reorder: bool,
     place: &mut [u16; BLOCKS],
     listed: &mut [u16; BLOCKS],
     marks: &mut [u8; BLOCKS],
@@ -360,8 +364,8 @@ fn plain(
     out: &mut [u8],
 ) -> Answer
     requires { ⌜ (blockTables (now place) (now listed) (now marks) (now ends) (now weight) ≡ noBlocks) × (armTables (now first) (now count) (now to) (now args) (now heft) ≡ noArms) ⌝ }
-    ensures { λ r. ⌜ r ≡ layoutBlocks on false (now (input .entry)) (now (out .entry)) .answer ⌝ }
-    ensures { λ _. ⌜ now (out .exit) ≡ layoutBlocks on false (now (input .entry)) (now (out .entry)) .lent ⌝ }
+    ensures { λ r. ⌜ r ≡ layoutBlocks on reorder (now (input .entry)) (now (out .entry)) .answer ⌝ }
+    ensures { λ _. ⌜ now (out .exit) ≡ layoutBlocks on reorder (now (input .entry)) (now (out .entry)) .lent ⌝ }
 {
     let r = reader::read(
         input,
@@ -383,6 +387,7 @@ fn plain(
     let n = r.blocks;
     let moved = forwarded(on, listed, ends, first, args, n, marks, weight, count, to);
     lay_out(
+        reorder,
         listed,
         first,
         count,
@@ -398,12 +403,17 @@ fn plain(
     )
 }
 
-// Reads the records of `input`, forwards if asked to, and lays the blocks in plain order: laid records at the front of `out`.
+// Reads the records of `input`, forwards and reorders if asked to, and lays the blocks: laid records at the front of `out`.
 // A refusal (1 to 10) changes no byte of `out`.
 #[no_mangle]
-pub extern "C" fn layout_plain(input: &[u8], forward: bool, out: &mut [u8]) -> Answer
-    ensures { λ r. ⌜ r ≡ layoutBlocks forward false (now (input .entry)) (now (out .entry)) .answer ⌝ }
-    ensures { λ _. ⌜ now (out .exit) ≡ layoutBlocks forward false (now (input .entry)) (now (out .entry)) .lent ⌝ }
+pub extern "C" fn layout_blocks(
+    input: &[u8],
+    forward: bool,
+    reorder: bool,
+    out: &mut [u8],
+) -> Answer
+    ensures { λ r. ⌜ r ≡ layoutBlocks forward reorder (now (input .entry)) (now (out .entry)) .answer ⌝ }
+    ensures { λ _. ⌜ now (out .exit) ≡ layoutBlocks forward reorder (now (input .entry)) (now (out .entry)) .lent ⌝ }
 {
     let mut place: [u16; BLOCKS] = [0; BLOCKS];
     let mut listed: [u16; BLOCKS] = [0; BLOCKS];
@@ -415,9 +425,10 @@ pub extern "C" fn layout_plain(input: &[u8], forward: bool, out: &mut [u8]) -> A
     let mut to: [u16; ARMS] = [0; ARMS];
     let mut args: [u8; ARMS] = [0; ARMS];
     let mut heft: [u64; ARMS] = [0; ARMS];
-    plain(
+    lay_file(
         input,
         forward,
+        reorder,
         &mut place,
         &mut listed,
         &mut marks,

@@ -1,5 +1,5 @@
 -- The limits of document 01, by name. No other file of definitions or proofs has these numbers.
-use Prim.Native.Nat.{ℕ}
+use Prim.Native.Nat.{ℕ, _+_, _*_}
 
 -- how many bytes a record has
 abbrev pub size : ℕ
@@ -36,3 +36,16 @@ arms = 512
 -- the split place that says that there is none
 abbrev pub noSplit : ℕ
 noSplit = 256
+
+-- a line of the listing has at most this many bytes: four letters, three numbers of three digits, a weight of twenty, and what stands
+-- behind each
+abbrev pub lineRoom : ℕ
+lineRoom = 41
+
+-- its last line has at most this many
+abbrev pub lastRoom : ℕ
+lastRoom = 27
+
+-- the listing has at most this many
+abbrev pub textRoom : ℕ
+textRoom = blocks * lineRoom + lastRoom

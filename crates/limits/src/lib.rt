@@ -25,3 +25,13 @@ pub const ARMS: usize = 512;
 
 // The split place that says that there is none.
 pub const NO_SPLIT: u64 = 256;
+
+// A line of the listing has at most this many bytes: four letters, three numbers of three digits, a weight of twenty,
+// and what stands behind each.
+pub const LINE: usize = 41;
+
+// Its last line has at most this many.
+pub const LAST_LINE: usize = 27;
+
+// The listing has at most this many.
+pub const TEXT: usize = BLOCKS * LINE + LAST_LINE;

@@ -88,6 +88,11 @@ pub marks-more : (seen more l : List ℕ) (n : ℕ) → ((m : ℕ) → member mo
 unfolding mem any
 marks-more seen more l n h r m = h m ∙ ap₂ (λ (a b : Bool). a || b) (eqb-turn m n) (r m)
 
+pub take-drop : (k : ℕ) (l : List ℕ) → l ≡ take k l ++ drop k l
+take-drop zero l = refl
+take-drop (suc k) [] = refl
+take-drop (suc k) (x ∷ l) = ap (λ (r : List ℕ). x ∷ r) (take-drop k l)
+
 -- ---- a trace on its way
 module _ (t : tables.Graph) (s : Traced) (likely low from start : ℕ) (was : List ℕ) where
   -- the trace as the rule makes it
@@ -119,11 +124,6 @@ module _ (t : tables.Graph) (s : Traced) (likely low from start : ℕ) (was : Li
     pub at : e ≡ start + length whole
     pub ordered : order ≡ take start was ++ (whole ++ drop e was)
     pub own : (m : ℕ) → In m whole → Of t m
-
-  take-drop : (k : ℕ) (l : List ℕ) → l ≡ take k l ++ drop k l
-  take-drop zero l = refl
-  take-drop (suc k) [] = refl
-  take-drop (suc k) (x ∷ l) = ap (λ (r : List ℕ). x ∷ r) (take-drop k l)
 
   pub sets-out : Whole (tabled t) → (entry : ℕ) (seen starts reached : List ℕ) → Ready t s entry from start seen starts reached → Going seen reached was start from
   sets-out w entry seen starts reached r = record {

@@ -27,9 +27,10 @@ use Rattle.records.proofs.StandLaws.{once-listed as stands-once}
 use Rattle.flow.specs.Lent.{Flows, Of, Marks}
 use Rattle.flow.proofs.LentLaws.{small}
 use Rattle.connect.specs.Joined.{beginOf, tracesIn}
+use Rattle.connect.proofs.TraceLaws.{next-begin, ends-low, ends-many}
 use Rattle.traces.specs.Growing.{Ready, traceOf, Turned, Begins, Traces}
 use Rattle.traces.specs.Held.{Held, Enters, Free, Adds, Added}
-use Rattle.traces.proofs.GrowLaws.{marks-more, few-blocks}
+use Rattle.traces.proofs.GrowLaws.{take-drop, marks-more, few-blocks}
 
 -- a trace has a block
 some-block : {g : Graph} {likely low n : ℕ} {laid l : List ℕ} → Extends g likely low laid n l → 0 < length l
@@ -37,28 +38,6 @@ some-block (stops _ _ e) = omega arith
 some-block (goes _ _ a r e x) = omega arith
 
 -- ---- where traces end
-next-begin : (ends : List ℕ) (j : ℕ) → beginOf ends (suc j) ≡ getD ends j 0
-unfolding beginOf
-next-begin ends j = refl
-
-module _ (ends : List ℕ) (found : ℕ) (rising : (k : ℕ) → k < found → beginOf ends k < getD ends k 0) where
-  climb : (d j : ℕ) → j + d ≡ found → beginOf ends j ≤ beginOf ends found
-  climb zero j q = let e : j ≡ found = omega (arith, q) in omega (arith, ap (beginOf ends) e)
-  climb (suc d) j q = omega (arith, rising j (omega (arith, q)), next-begin ends j, climb d (suc j) (omega (arith, q)))
-
-  -- none past the last one's end
-  pub ends-low : (j : ℕ) → j < found → getD ends j 0 ≤ beginOf ends found
-  ends-low j h = omega (arith, next-begin ends j, climb (found - suc j) (suc j) (omega (arith, h)))
-
-  -- each has a block
-  pub ends-many : found ≤ beginOf ends found
-  unfolding beginOf
-  ends-many = go found (omega arith)
-    where
-      go : (k : ℕ) → k ≤ found → k ≤ beginOf ends k
-      go zero h = omega arith
-      go (suc k) h = omega (arith, go k (omega (arith, h)), rising k (omega (arith, h)), next-begin ends k)
-
 begin-same : (ends more : List ℕ) (found : ℕ) → ((j : ℕ) → j < found → getD more j 0 ≡ getD ends j 0) → (k : ℕ) → k ≤ found → beginOf more k ≡ beginOf ends k
 unfolding beginOf
 begin-same ends more found h zero l = refl
@@ -84,11 +63,6 @@ unfolding concat
 concat-both [] b = refl
 concat-both (x ∷ a) b = ap (λ (l : List ℕ). x ++ l) (concat-both a b) ∙ sym (append-assoc x (concat a) (concat b))
 
-take-drop : (k : ℕ) (l : List ℕ) → take k l ++ drop k l ≡ l
-take-drop zero l = refl
-take-drop (suc k) [] = refl
-take-drop (suc k) (x ∷ l) = ap (λ (r : List ℕ). x ∷ r) (take-drop k l)
-
 get-in : (l : List ℕ) (i : ℕ) → i < length l → In (getD l i 0) l
 get-in [] i h = absurd (omega (arith, h))
 get-in (x ∷ l) zero h = inl refl
@@ -102,7 +76,7 @@ module _ (order ends : List ℕ) (found : ℕ) (rising : (k : ℕ) → k < found
       concat-both (tracesIn order ends k) (slice (beginOf ends k) (getD ends k 0) order ∷ [])
       ∙ ap₂ (λ (a b : List ℕ). a ++ b) (together k (omega (arith, h))) (append-nil (slice (beginOf ends k) (getD ends k 0) order))
       ∙ ap (λ (l : List ℕ). l ++ slice (beginOf ends k) (getD ends k 0) order) (sym (take-take (beginOf ends k) (getD ends k 0) order (omega (arith, rising k (omega (arith, h))))))
-      ∙ take-drop (beginOf ends k) (take (getD ends k 0) order)
+      ∙ sym (take-drop (beginOf ends k) (take (getD ends k 0) order))
 
   -- the traces are what stands before the last one's end
   pub all-together : concat (tracesIn order ends found) ≡ take (beginOf ends found) order

@@ -29,7 +29,8 @@ use Rattle.traces.proofs.HeldLaws.{once-listed, laid-own, laid-once, la
 use Rattle.traces.proofs.FillLaws.{nothing-held}
 
 module _ (listed marks weight first counts to heft : List ℕ) (n : ℕ) where
-  walks-over : (t : Graph) → Over t listed marks weight first counts to heft n → walks.Over t listed first counts to n
+  -- the walk's tables are among them
+  pub walks-over : (t : Graph) → Over t listed marks weight first counts to heft n → walks.Over t listed first counts to n
   walks-over t o = record {
     listed-is = o .listed-is;
     first-is = o .flows .over .first-is;

@@ -1,7 +1,7 @@
 //! A running program that makes calls to the archive.
 
 use crate::Program;
-use judge::records::Answer;
+use judge::records::{Answer, Choices};
 use std::io::{Read, Write};
 use std::process::{Child, ChildStdin, ChildStdout, Stdio};
 
@@ -9,10 +9,10 @@ use std::process::{Child, ChildStdin, ChildStdout, Stdio};
 const GUARD: usize = 32;
 const UNTOUCHED: u8 = 0xc3;
 
-/// The calls by number, as `caller.c` has them.
-const WRITE_BACK: u64 = 0;
-const PLAIN: u64 = 1;
-const PLAIN_FORWARDED: u64 = 2;
+/// The calls by number, as `caller.c` has them: a layout has one bit for each choice.
+const FORWARD: u64 = 1;
+const REORDER: u64 = 2;
+const WRITE_BACK: u64 = 4;
 
 /// One `caller` process, which ends when this is dropped.
 #[derive(Debug)]
@@ -38,9 +38,11 @@ impl Caller {
         self.call(WRITE_BACK, input, out)
     }
 
-    /// Calls `layout_plain`.
-    pub fn layout_plain(&mut self, input: &[u8], forward: bool, out: &mut [u8]) -> Answer {
-        self.call(if forward { PLAIN_FORWARDED } else { PLAIN }, input, out)
+    /// Calls `layout_blocks`.
+    pub fn layout_blocks(&mut self, input: &[u8], choices: Choices, out: &mut [u8]) -> Answer {
+        let bit = |bit: u64, chosen: bool| if chosen { bit } else { 0 };
+        let number = bit(FORWARD, choices.forward) | bit(REORDER, choices.reorder);
+        self.call(number, input, out)
     }
 
     /// Has a call made, and sees that nothing outside the lent bytes changed.

@@ -1,4 +1,5 @@
-//! C programs over the archive: compiled, linked and run on this machine.
+//! C programs over the archive: compiled, linked and run on this machine. And the programs that the
+//! kit built.
 
 use std::env;
 use std::path::{Path, PathBuf};
@@ -26,7 +27,7 @@ fn archive() -> PathBuf {
     archive
 }
 
-/// A C program that links the archive.
+/// A program for the archive's processor.
 #[derive(Debug)]
 pub struct Program {
     file: PathBuf,
@@ -35,6 +36,17 @@ pub struct Program {
 }
 
 impl Program {
+    /// The listing program: what BLOCKLIST names, or what `rt check` built.
+    #[must_use]
+    pub fn blocklist() -> Self {
+        let built = || repository().join("target/bin/blocklist");
+        let file = env::var_os("BLOCKLIST").map_or_else(built, PathBuf::from);
+        let shown = file.display();
+        assert!(file.is_file(), "no program at {shown}: run `rt check blocklist` or set BLOCKLIST");
+        let kit = if cfg!(target_arch = "x86_64") { None } else { Some(Kit::found()) };
+        Program { file, kit }
+    }
+
     /// Compiles `tests/c/NAME.c` and links it with the archive, to a file in `folder`.
     #[must_use]
     pub fn made(name: &str, folder: &str) -> Self {

@@ -11,12 +11,12 @@ use std::process::Command;
 /// The crates that hold the definitions, lowest first.
 const CRATES: [&str; 3] = ["limits", "lists", "rules"];
 
-/// Files of at most so many records, and every so-manieth call on them, to end in seconds.
+/// Files of at most so many records, and every so-manieth call or listing, to end in seconds.
 const MOST_RECORDS: usize = 24;
-const EVERY: usize = 3;
+const EVERY: usize = 4;
 
 /// What has to be opened for a call to be computed, module by module.
-const OPENED: [(&str, &str); 7] = [
+const OPENED: [(&str, &str); 8] = [
     ("Lists", "pick"),
     ("Graph", "isEntry"),
     (
@@ -31,26 +31,26 @@ const OPENED: [(&str, &str); 7] = [
     ),
     ("Forward", "moves"),
     ("Laid", "layout splitOf laidBytes"),
+    ("Outcome", "refusal refused writtenBack backOf writeBack laid layoutOf layoutBlocks"),
     (
-        "Outcome",
-        "refusal refused writtenBack backOf writeBack laid layoutOf layoutBlocks",
+        "Listing",
+        "digits decimal line letter placeLine placeLines splitLine refusalLine listingOf blocklist",
     ),
 ];
 
-fn stored() -> Vec<Case> {
-    let read = |name: &str| {
-        let path = repository().join("tests/vectors").join(name);
-        let text = fs::read_to_string(path).expect("the vectors are in the repository");
-        cases::read(&text).expect("the vectors are of their form")
-    };
-    [read("layouts.txt"), read("refusals.txt")].concat()
+/// The small files among the stored ones of that name.
+fn stored(name: &str) -> impl Iterator<Item = Case> {
+    let path = repository().join("tests/vectors").join(name);
+    let text = fs::read_to_string(path).expect("the vectors are in the repository");
+    let cases = cases::read(&text).expect("the vectors are of their form");
+    cases.into_iter().filter(|case| case.input.len() <= MOST_RECORDS * RECORD)
 }
 
-/// The small calls among the stored ones, each with its file.
+/// The calls on small files, each with its file.
 fn small() -> Vec<(Vec<u8>, Run)> {
-    let few = |case: &Case| case.input.len() <= MOST_RECORDS * RECORD;
     let calls = |case: Case| case.runs.into_iter().map(move |run| (case.input.clone(), run));
-    stored().into_iter().filter(few).flat_map(calls).step_by(EVERY).collect()
+    let cases = stored("layouts.txt").chain(stored("refusals.txt"));
+    cases.flat_map(calls).step_by(EVERY).collect()
 }
 
 fn list(bytes: &[u8]) -> String {
@@ -74,11 +74,19 @@ fn theorem(index: usize, input: &[u8], run: &Run) -> String {
         .map(|(name, number)| format!("{name} = {number}; "))
         .collect();
     let (input, lent, after) = (list(input), list(&lent), list(&after));
+    let outcome = format!("record {{ answer = record {{ {fields}}}; lent = {after} }}");
+    computed(&format!("call-{index}"), &format!("{call} {input} {lent}"), &outcome)
+}
+
+/// A listing as a theorem.
+fn listing_theorem(index: usize, case: &Case) -> String {
+    let (input, printed) = (list(&case.input), list(case.listing.as_bytes()));
+    computed(&format!("listing-{index}"), &format!("blocklist {input}"), &printed)
+}
+
+fn computed(name: &str, term: &str, value: &str) -> String {
     let opened = OPENED.map(|(_, names)| names).join(" ");
-    format!(
-        "call-{index} : {call} {input} {lent} ≡ record {{ answer = record {{ {fields}}}; lent = {after} }}\n\
-         unfolding {opened}\ncall-{index} = refl\n\n"
-    )
+    format!("{name} : {term} ≡ {value}\nunfolding {opened}\n{name} = refl\n\n")
 }
 
 fn uses() -> String {
@@ -141,11 +149,17 @@ fn proved(folder: &Path) -> (bool, String) {
 #[test]
 fn the_definitions_say_something_else_than_the_vectors() {
     let calls = small();
-    println!("{} calls computed", calls.len());
-    assert!(calls.len() >= 100, "{} calls are too few", calls.len());
-    let theorems: String =
-        calls.iter().enumerate().map(|(index, (input, run))| theorem(index, input, run)).collect();
-    let (good, said) = proved(&made("definitions", &theorems));
+    for choices in Choices::ALL {
+        let laid = calls.iter().filter(|(_, run)| run.call == Call::Layout(choices)).count();
+        println!("{laid} calls computed by {choices:?}");
+        assert!(laid >= 50, "{laid} calls by {choices:?} are too few");
+    }
+    let listings: Vec<Case> = stored("listings.txt").step_by(EVERY).collect();
+    println!("{} listings computed", listings.len());
+    assert!(listings.len() >= 40, "{} listings are too few", listings.len());
+    let calls = calls.iter().enumerate().map(|(index, (input, run))| theorem(index, input, run));
+    let listings = listings.iter().enumerate().map(|(index, case)| listing_theorem(index, case));
+    let (good, said) = proved(&made("definitions", &calls.chain(listings).collect::<String>()));
     assert!(good, "{said}");
 }
 

@@ -1,10 +1,12 @@
-//! Stored cases: a file, the calls made on it, and what each must answer and write.
+//! Stored cases: a file, what `blocklist` must print for it, and the calls made on it with what
+//! each must answer and write.
 //!
 //! The form is text with one record to a line, so that a change shows as the records it changed:
 //!
 //! ```text
 //! file a name
 //! > 01000101000000001027000000000000      sixteen bytes of the input, the last line perhaps fewer
+//! | 0 B 0 10000 W - - 0                   a line that is printed
 //! run write-back lent 128                 or: run layout forward yes reorder no lent 128
 //! = 0 0 0 128 4 0 0 256                   the answer's eight numbers
 //! < 01000101000000001027000000000000      the bytes written; lent bytes behind them are kept
@@ -31,6 +33,8 @@ pub struct Run {
 pub struct Case {
     pub name: String,
     pub input: Vec<u8>,
+    /// Whole lines, or nothing where the case is of calls alone.
+    pub listing: String,
     pub runs: Vec<Run>,
 }
 
@@ -41,6 +45,7 @@ pub fn write(cases: &[Case]) -> String {
     for case in cases {
         text += &format!("file {}\n", case.name);
         write_bytes(&mut text, '>', &case.input);
+        text.extend(case.listing.lines().map(|line| format!("| {line}\n")));
         for run in &case.runs {
             text += &format!("run {} lent {}\n", write_call(run.call), run.lent);
             let numbers = run.answer.numbers().map(|number| number.to_string());
@@ -92,6 +97,7 @@ fn take(cases: &mut Vec<Case>, line: &str) -> Option<()> {
     let case = cases.last_mut()?;
     match sign {
         ">" => case.input.extend(read_bytes(rest)?),
+        "|" => case.listing.extend([rest, "\n"]),
         "run" => case.runs.push(read_run(rest)?),
         "=" => case.runs.last_mut()?.answer = read_answer(rest)?,
         "<" => case.runs.last_mut()?.output.extend(read_bytes(rest)?),

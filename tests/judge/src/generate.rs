@@ -3,6 +3,7 @@
 //! A graph is made under habits drawn for it alone, so that what is rare in one graph is common
 //! in another: all cold, all ways through, all weights equal, every arm a tie.
 
+use crate::aimed;
 use crate::random::Random;
 use crate::records::{
     ADDRESS, Arm, BRANCH, Block, COLD, CONDITIONAL, DEAD_END, ENTRY, GOTO, Graph, INDIRECT,
@@ -90,7 +91,8 @@ pub fn graph(seed: u64) -> Graph {
     let size = match random.below(100) {
         0 => 0,
         1 => 1,
-        2..50 => 2 + random.below(7),
+        2..25 => 2 + random.below(7),
+        25..50 => return aimed::graph(&mut random),
         50..82 => 3 + random.below(20),
         82..96 => return looped(&mut random),
         96..98 => 20 + random.below(80),
@@ -185,7 +187,7 @@ fn looped(random: &mut Random) -> Graph {
 }
 
 /// Block numbers: as counted, mixed, or mixed with gaps between them.
-fn numbers(random: &mut Random, size: usize) -> Vec<u8> {
+pub(crate) fn numbers(random: &mut Random, size: usize) -> Vec<u8> {
     let mut numbers: Vec<u8> = (0..128).collect();
     match random.below(3) {
         0 => {}

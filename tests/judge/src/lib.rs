@@ -3,8 +3,11 @@
 //!
 //! Nothing here is taken from the proved crates or from the Rust text.
 
+mod aimed;
 pub mod breaker;
 pub mod cases;
+pub mod effects;
+pub mod examples;
 pub mod generate;
 pub mod listing;
 pub mod model;

@@ -1,6 +1,18 @@
-//! Laid records as the lines that `blocklist` prints for them.
+//! The lines that `blocklist` prints.
 
-use crate::records::{BLOCK, BRIDGE, COLD, HEAD, RECORD, weight};
+use crate::reading::{self, Refused};
+use crate::records::{BLOCK, BRIDGE, COLD, Choices, Graph, HEAD, Laid, RECORD, weight};
+
+/// The choices by which `blocklist` lays.
+pub const CHOICES: Choices = Choices { forward: true, reorder: true };
+
+/// All that is printed for a file, where an accepted graph is laid as `lay` does it.
+pub fn printed(input: &[u8], lay: impl FnOnce(&Graph, Choices) -> Laid) -> String {
+    match reading::read(input) {
+        Ok(graph) => lines(&lay(&graph, CHOICES).bytes),
+        Err(Refused { number, place }) => format!("refused {number} at {place}\n"),
+    }
+}
 
 /// The listing of laid records, without the reader's help: the split is read from the records.
 #[must_use]

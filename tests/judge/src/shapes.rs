@@ -7,7 +7,7 @@ use crate::records::{
 /// A shape's name and the question.
 pub type Shape = (&'static str, fn(&Graph) -> bool);
 
-pub const SHAPES: [Shape; 27] = [
+pub const SHAPES: [Shape; 40] = [
     ("no blocks", |graph| graph.blocks.is_empty()),
     ("one block", |graph| graph.blocks.len() == 1),
     ("128 blocks", |graph| graph.blocks.len() == MOST_BLOCKS),
@@ -55,7 +55,42 @@ pub const SHAPES: [Shape; 27] = [
     ("a way through to itself", |graph| ways_through(graph).any(|arm| arm.to == arm.from)),
     ("a loop of one block under a cold one", |graph| feeds_itself(graph, 1)),
     ("a loop of two blocks under a cold one", |graph| feeds_itself(graph, 2)),
+    // The numbers of document 01's points.
+    ("P1, 80000 back into 100000", |graph| enters(graph, 80_000, 100_000)),
+    ("P1, 80001 back into 100000", |graph| enters(graph, 80_001, 100_000)),
+    ("P2, 3999 in 9998", |graph| leaves(graph, 3_999, 9_998)),
+    ("P2, 4 in 10", |graph| leaves(graph, 4, 10)),
+    ("P2, 5 in 0", |graph| leaves(graph, 5, 0)),
+    ("P2, 1999 in 9998", |graph| leaves(graph, 1_999, 9_998)),
+    ("P2, 2 in 10", |graph| leaves(graph, 2, 10)),
+    ("P2, 999 in 9998", |graph| leaves(graph, 999, 9_998)),
+    ("P2, 1 in 10", |graph| leaves(graph, 1, 10)),
+    ("P3, an entry of 3", |graph| graph.entry().is_some_and(|entry| entry.weight == 3)),
+    ("P3, an entry of the largest weight", |graph| {
+        graph.entry().is_some_and(|entry| entry.weight == u64::MAX)
+    }),
+    ("P4, a hottest block of 99", |graph| hottest(graph) == Some(99)),
+    ("P4, a hottest block of 199", |graph| hottest(graph) == Some(199)),
 ];
+
+/// Whether an arm of one weight goes to a block of the other, or leaves one.
+fn enters(graph: &Graph, arm: u64, block: u64) -> bool {
+    joined(graph, arm, block, |arm| arm.to)
+}
+
+fn leaves(graph: &Graph, arm: u64, block: u64) -> bool {
+    joined(graph, arm, block, |arm| arm.from)
+}
+
+fn joined(graph: &Graph, arm: u64, block: u64, side: fn(&Arm) -> u8) -> bool {
+    let mut arms = graph.arms.iter().filter(|found| found.weight == arm);
+    let weighs = |number| graph.blocks.iter().any(|b| b.number == number && b.weight == block);
+    arms.any(|arm| weighs(side(arm)))
+}
+
+fn hottest(graph: &Graph) -> Option<u64> {
+    graph.blocks.iter().map(|block| block.weight).max()
+}
 
 fn warm_entry_and_cold_block(graph: &Graph) -> bool {
     graph.entry().is_some_and(|entry| !entry.marked(COLD))

@@ -1,30 +1,15 @@
-//! The examples' two forms say the same.
+//! The examples' records and words say the same.
 
+use judge::examples::{folder, names};
 use judge::generate;
 use judge::records::{Arm, Block, Graph};
 use judge::words;
 use std::fs;
-use std::path::{Path, PathBuf};
-
-fn examples() -> PathBuf {
-    Path::new(env!("CARGO_MANIFEST_DIR")).join("../../examples")
-}
-
-/// The examples' names, by the files of one form.
-fn names(form: &str) -> Vec<PathBuf> {
-    let files = fs::read_dir(examples()).expect("there are examples");
-    let paths = files.map(|file| file.expect("the folder can be read").path());
-    let mut named: Vec<PathBuf> = paths
-        .filter(|path| path.extension().is_some_and(|found| found == form))
-        .map(|path| path.with_extension(""))
-        .collect();
-    named.sort();
-    named
-}
 
 #[test]
 fn an_example_says_one_thing_in_words_and_holds_another() {
-    assert_eq!(names("txt"), names("rec"), "each example has both forms");
+    assert!(names("txt").len() >= 5, "the examples are {:?}", names("txt"));
+    assert_eq!(names("txt"), names("rec"), "each example has its words and its records");
     for name in names("txt") {
         let text = fs::read_to_string(name.with_extension("txt")).expect("the words can be read");
         let bytes = fs::read(name.with_extension("rec")).expect("the records can be read");
@@ -47,7 +32,7 @@ fn the_worked_example_is_not_the_one_of_document_01() {
         ],
         arms: vec![arm(0, 1, 10_000), arm(1, 2, 90_000), arm(1, 3, 10_000), arm(2, 1, 90_000)],
     };
-    let bytes = fs::read(examples().join("worked.rec")).expect("the example is there");
+    let bytes = fs::read(folder().join("worked.rec")).expect("the example is there");
     assert_eq!(bytes.len(), 128);
     assert_eq!(judge::reading::read(&bytes), Ok(expected));
 }

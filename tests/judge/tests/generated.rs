@@ -1,7 +1,10 @@
 //! The files that the comparisons run on are judged here.
 
+use judge::effects::DECISIONS;
 use judge::generate;
+use judge::model;
 use judge::reading;
+use judge::records::{Choices, Graph};
 use judge::shapes::SHAPES;
 
 /// How many graphs are looked at, and how many must have each shape.
@@ -16,21 +19,33 @@ fn a_generated_graph_is_refused_or_read_as_another() {
     }
 }
 
-#[test]
-fn a_shape_that_must_be_tried_is_hardly_met() {
-    let mut met = [0; SHAPES.len()];
+/// How often each of some things is met on the graphs, which must not be seldom.
+fn often_enough<const N: usize>(names: [&str; N], met_on: impl Fn(&Graph) -> [bool; N]) {
+    let mut counts = [0; N];
     for seed in 0..GRAPHS {
-        let graph = generate::graph(seed);
-        for (count, (_, has)) in met.iter_mut().zip(SHAPES) {
-            *count += usize::from(has(&graph));
-        }
+        let met = met_on(&generate::graph(seed));
+        counts = std::array::from_fn(|at| counts[at] + usize::from(met[at]));
     }
-    for (count, (name, _)) in met.iter().zip(SHAPES) {
-        println!("{count} {name}");
+    for (count, name) in counts.iter().zip(names) {
+        println!("{count} graphs with {name}");
     }
-    for (count, (name, _)) in met.iter().zip(SHAPES) {
+    for (count, name) in counts.iter().zip(names) {
         assert!(*count >= LEAST, "only {count} graphs with {name}");
     }
+}
+
+#[test]
+fn a_shape_that_must_be_tried_is_hardly_met() {
+    often_enough(SHAPES.map(|(name, _)| name), |graph| SHAPES.map(|(_, has)| has(graph)));
+}
+
+#[test]
+fn a_decision_that_must_be_made_is_hardly_met() {
+    let both = Choices { forward: true, reorder: true };
+    often_enough(DECISIONS.map(|(name, _)| name), |graph| {
+        let account = model::account(graph, both);
+        DECISIONS.map(|(_, made)| made(&account))
+    });
 }
 
 #[test]

@@ -1,18 +1,22 @@
-//! The stored cases, made again: layouts by the Rust text, refusals and write-backs by document 01.
+//! The stored cases, made again: layouts and listings by the Rust text, refusals and write-backs by
+//! document 01.
 
 use crate::lay;
 use judge::breaker;
 use judge::cases::{self, Call, Case, Run};
 use judge::generate;
+use judge::listing;
 use judge::model::{self, Mistake};
 use judge::random::Random;
 use judge::reading;
 use judge::records::{Choices, Graph, LONGEST, MOST_ARMS, RECORD};
 use judge::words;
+use std::ops::Range;
 
-/// The names of the two files.
+/// The names of the files.
 pub const LAYOUTS: &str = "layouts.txt";
 pub const REFUSALS: &str = "refusals.txt";
+pub const LISTINGS: &str = "listings.txt";
 
 /// Where the files are kept, as `make-vectors` and the tests find them.
 #[must_use]
@@ -55,58 +59,70 @@ const NAMED: [(&str, &str); 6] = [
 
 /// Every file of vectors: its name and its text.
 #[must_use]
-pub fn made() -> [(&'static str, String); 2] {
-    [(LAYOUTS, cases::write(&layouts())), (REFUSALS, cases::write(&refusals()))]
+pub fn made() -> [(&'static str, String); 3] {
+    [(LAYOUTS, layouts()), (REFUSALS, refusals()), (LISTINGS, listings())]
+        .map(|(name, cases)| (name, cases::write(&cases)))
 }
 
-fn layouts() -> Vec<Case> {
-    let named = NAMED.iter().map(|&(name, text)| {
-        let graph = words::read(text).expect("the graph is well written");
-        layout_case(name.to_owned(), &graph, 0)
-    });
-    let small = (0..60).map(|seed| {
-        let mut random = Random::new(1_000 + seed);
-        let size = 2 + random.below(11);
-        layout_case(format!("small {seed}"), &generate::sized(&mut random, size), seed)
-    });
-    let larger = (0..14).map(|seed| {
-        let mut random = Random::new(2_000 + seed);
-        let size = 20 + random.below(30);
-        layout_case(format!("larger {seed}"), &generate::sized(&mut random, size), seed)
-    });
-    let full = (0..2).map(|seed| {
-        let graph = generate::full(&mut Random::new(3_000 + seed));
-        layout_case(format!("128 blocks and 384 arms, {seed}"), &graph, seed)
-    });
-    named.chain(small).chain(larger).chain(full).chain(telling()).collect()
-}
-
-/// For each rule that is easily got wrong, small graphs on which the mistake shows.
-fn telling() -> impl Iterator<Item = Case> {
-    Mistake::ALL.into_iter().flat_map(|mistake| {
-        let small = (5_000..).map(generate::graph).filter(|graph| graph.blocks.len() <= 12);
-        let shows = move |graph: &Graph| {
-            Choices::ALL.into_iter().any(|choices| {
-                model::lay(graph, choices, Some(mistake)) != model::lay(graph, choices, None)
-            })
-        };
-        let found = small.filter(shows).take(3).enumerate();
-        found.map(move |(index, graph)| {
-            layout_case(format!("{mistake:?} shows, {index}"), &graph, 0)
-        })
+fn named() -> impl Iterator<Item = (String, Graph)> {
+    NAMED.iter().map(|&(name, text)| {
+        (name.to_owned(), words::read(text).expect("the graph is well written"))
     })
 }
 
-/// A good file written back and laid by all four choices. Every fifth is lent one byte too few.
-fn layout_case(name: String, graph: &Graph, seed: u64) -> Case {
-    let mut case = Case { name, input: graph.bytes(), runs: Vec::new() };
+/// Graphs of so many blocks, at least `least` and fewer than `most`.
+fn drawn(name: &str, seeds: Range<u64>, least: usize, most: usize) -> Vec<(String, Graph)> {
+    let first = seeds.start;
+    let graph = |seed| {
+        let mut random = Random::new(seed);
+        let size = least + random.below(most - least);
+        (format!("{name} {}", seed - first), generate::sized(&mut random, size))
+    };
+    seeds.map(graph).collect()
+}
+
+/// For each rule that is easily got wrong, small graphs of which the mistake changes what is seen.
+fn telling<T: PartialEq>(
+    count: usize,
+    seen: impl Fn(&Graph, Option<Mistake>) -> T,
+) -> Vec<(String, Graph)> {
+    let mut found = Vec::new();
+    for mistake in Mistake::ALL {
+        let small = (5_000..).map(generate::graph).filter(|graph| graph.blocks.len() <= 12);
+        let shows = |graph: &Graph| seen(graph, Some(mistake)) != seen(graph, None);
+        let graphs = small.filter(shows).take(count).enumerate();
+        found.extend(graphs.map(|(index, graph)| (format!("{mistake:?} shows, {index}"), graph)));
+    }
+    found
+}
+
+fn layouts() -> Vec<Case> {
+    let all = |graph: &Graph, mistake: Option<Mistake>| {
+        Choices::ALL.map(|choices| model::lay(graph, choices, mistake))
+    };
+    let full = (0..2).map(|seed| {
+        let graph = generate::full(&mut Random::new(3_000 + seed));
+        (format!("128 blocks and 384 arms, {seed}"), graph)
+    });
+    let graphs = named()
+        .chain(drawn("small", 1_000..1_060, 2, 13))
+        .chain(drawn("larger", 2_000..2_014, 20, 50))
+        .chain(full)
+        .chain(telling(3, all));
+    let mut cases: Vec<Case> = graphs.map(|(name, graph)| case_of(name, graph.bytes())).collect();
+    for case in cases.iter_mut().step_by(5) {
+        push_run(case, Call::WriteBack, 1);
+        push_run(case, Call::Layout(listing::CHOICES), 1);
+    }
+    cases
+}
+
+/// A file written back and laid by all four choices.
+fn case_of(name: String, input: Vec<u8>) -> Case {
+    let mut case = Case { name, input, ..Case::default() };
     push_run(&mut case, Call::WriteBack, 0);
     for choices in Choices::ALL {
         push_run(&mut case, Call::Layout(choices), 0);
-    }
-    if seed % 5 == 1 {
-        push_run(&mut case, Call::WriteBack, 1);
-        push_run(&mut case, Call::Layout(Choices { forward: true, reorder: true }), 1);
     }
     case
 }
@@ -134,20 +150,34 @@ fn refusals() -> Vec<Case> {
         // Files under 1 and 8 are long, so a few of them must do.
         let found = broken_files(refusal).take(if matches!(refusal, 1 | 8) { 4 } else { 12 });
         for (index, input) in found.enumerate() {
-            cases.push(refused_case(format!("refusal {refusal}, {index}"), input, index));
+            cases.push(case_of(format!("refusal {refusal}, {index}"), input));
         }
     }
-    let edges = edge_files().into_iter();
-    cases.extend(edges.enumerate().map(|(index, (name, input))| refused_case(name, input, index)));
+    cases.extend(edge_files().into_iter().map(|(name, input)| case_of(name, input)));
     cases
 }
 
-/// A file that is refused, or just not, written back and laid by one of the choices in turn.
-fn refused_case(name: String, input: Vec<u8>, index: usize) -> Case {
-    let mut case = Case { name, input, runs: Vec::new() };
-    push_run(&mut case, Call::WriteBack, 0);
-    push_run(&mut case, Call::Layout(Choices::ALL[index % 4]), 0);
-    case
+/// Files with what `blocklist` prints for them: other graphs than above, and refused files.
+fn listings() -> Vec<Case> {
+    let lines = |graph: &Graph, mistake: Option<Mistake>| {
+        listing::lines(&model::lay(graph, listing::CHOICES, mistake).bytes)
+    };
+    let graphs = named()
+        .chain(drawn("small", 6_000..6_060, 2, 13))
+        .chain(drawn("larger", 7_000..7_012, 20, 50))
+        .chain(telling(2, lines));
+    let good = graphs.map(|(name, graph)| (name, graph.bytes()));
+    let broken = (2..=9).filter(|refusal| *refusal != 8).flat_map(|refusal| {
+        let files = broken_files(refusal).skip(12).take(4).enumerate();
+        files.map(move |(index, input)| (format!("refusal {refusal}, {index}"), input))
+    });
+    let files = good.chain(broken).chain(edge_files());
+    files.map(|(name, input)| listing_case(name, input)).collect()
+}
+
+fn listing_case(name: String, input: Vec<u8>) -> Case {
+    let listing = listing::printed(&input, lay);
+    Case { name, input, listing, ..Case::default() }
 }
 
 /// Small files with a damage that is refused under a number.

@@ -1,6 +1,7 @@
 //! The stored vectors are judged here, with the Rust text at hand.
 
 use judge::cases::{self, Call, Case};
+use judge::listing;
 use judge::records::Choices;
 use oracle::vectors;
 use std::fs;
@@ -9,9 +10,12 @@ fn stored(name: &str) -> String {
     fs::read_to_string(vectors::folder().join(name)).expect("the vectors are in the repository")
 }
 
+/// The names of the files.
+const FILES: [&str; 3] = [vectors::LAYOUTS, vectors::REFUSALS, vectors::LISTINGS];
+
 fn stored_cases() -> Vec<Case> {
     let read = |name| cases::read(&stored(name)).expect("the vectors are of their form");
-    [read(vectors::LAYOUTS), read(vectors::REFUSALS)].concat()
+    FILES.map(read).concat()
 }
 
 #[test]
@@ -20,6 +24,9 @@ fn a_stored_case_is_not_what_the_rust_gives() {
         return;
     }
     for case in stored_cases() {
+        if !case.listing.is_empty() {
+            assert_eq!(case.listing, listing::printed(&case.input, oracle::lay), "{}", case.name);
+        }
         for run in &case.runs {
             let (answer, output) = vectors::expected(&case.input, run.call, run.lent);
             assert_eq!(
@@ -56,13 +63,15 @@ fn the_vectors_are_too_few_or_too_large() {
         assert!(laid >= 100, "{laid} layouts by {choices:?}");
     }
     assert!(runs(Call::WriteBack).count() >= 200);
-    let size = stored(vectors::LAYOUTS).len() + stored(vectors::REFUSALS).len();
+    let listed = cases.iter().filter(|case| !case.listing.is_empty()).count();
+    assert!(listed >= 200, "{listed} listings");
+    let size: usize = FILES.map(|name| stored(name).len()).iter().sum();
     assert!(size < 2_000_000, "{size} bytes");
 }
 
 #[test]
 fn a_case_is_lost_between_its_text_and_its_reading() {
-    for name in [vectors::LAYOUTS, vectors::REFUSALS] {
+    for name in FILES {
         let text = stored(name);
         let cases = cases::read(&text).expect("the vectors are of their form");
         assert!(cases::write(&cases) == text, "{name} is read as something else");

@@ -1,6 +1,6 @@
 -- `layout::laid_out` meets its contract.
 use mathlib.Core.Path.{refl}
-use Rattle.layout.specs.Plain.{laidOut}
+use Rattle.layout.specs.Outcomes.{laidOut}
 use Rattle.layout.proofs.laid_out.Statement.{statement}
 use Rattle.layout.proofs.laid_out.Tie as tie
 

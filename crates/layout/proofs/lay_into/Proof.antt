@@ -10,10 +10,10 @@ blocks-requires c κs = let y = c .before .before .before .before .before .befor
 write-laid-requires : tie.Need-write-laid-requires
 write-laid-requires c κs =
     let y = c .before .before .before .before .before .before .before .before .before .before .before .before .before .before .before .before .before .before .before .before .before .before .before .before .before .pre .0 in
-    record { graph = _; placed = c .before .before .before .before .before .before .before .before .before .before .before .before .blocks2 .ensures (y .graph) (y .over) (y .ready); fit = y .fit }
+    record { reorder = _; graph = _; placed = c .before .before .before .before .before .before .before .before .before .before .before .before .blocks2 .ensures (y .graph) (y .over) (y .ready); fit = y .fit }
 
 returns : tie.Need-returns
-returns c t e r f = c .before .before .write-laid .ensures _ (c .before .before .before .before .before .before .before .before .before .before .before .before .before .before .before .blocks2 .ensures t e r) f (over-length e)
+returns c t e r f = c .before .before .write-laid .ensures _ _ (c .before .before .before .before .before .before .before .before .before .before .before .before .before .before .before .blocks2 .ensures t e r) f (over-length e)
 
 pub lay-into-spec : {M : Type 1} → statement M
 lay-into-spec = tie.close (tie.spec blocks-requires write-laid-requires (λ c. search needs) returns)

@@ -13,10 +13,10 @@ mul-bytes : tie.Need-mul-bytes
 mul-bytes c = let k = laid-few (c .before .before .before .pre .placed) in omega (arith, k .0, k .1)
 
 returns : tie.Need-returns
-returns c g h f e =
+returns c b g h f e =
     let x = c .before .before .before .before .before .args in
-    let b = laid-short h (x .moved) (x .out .now) (c .before .if1 .taken) in
-    (c .refuse .ensures ∙ b .0, b .1)
+    let s = laid-short h (x .moved) (x .out .now) (c .before .if1 .taken) in
+    (c .refuse .ensures ∙ s .0, s .1)
 
 heads-requires : tie.Need-heads-requires
 heads-requires c κs = let w = c .before .before .before .before .pre in can-head (w .placed) (w .fit)
@@ -28,10 +28,10 @@ write-requires c κs =
     (heads-are (w .placed) (w .fit) _ (m .0) (m .1), can-write (w .placed) (w .fit) _ (c .before .before .before .if1 .left))
 
 returns-2 : tie.Need-returns-2
-returns-2 c g h f e =
+returns-2 c b g h f e =
     let x = c .before .before .before .before .before .before .before .before .before .before .before .args in
-    let b = laid-room h (x .moved) (x .out .now) _ (x .n) e (c .before .before .before .before .before .before .before .if1 .left) (c .before .before .before .write .ensures) in
-    (c .laid-out .ensures ∙ b .0, b .1)
+    let s = laid-room h (x .moved) (x .out .now) _ (x .n) e (c .before .before .before .before .before .before .before .if1 .left) (c .before .before .before .write .ensures) in
+    (c .laid-out .ensures ∙ s .0, s .1)
 
 pub write-laid-spec : {M : Type 1} → statement M
 write-laid-spec =

@@ -1,29 +1,35 @@
 //! Heads: past first place, heavy enough, and entered from their own or a later place that they
 //! reach by a chain of arms.
 
+use super::account::{Account, Looped};
 use super::{Mistake, Model};
 use crate::records::{BRIDGE, HEAD};
 
 impl Model {
-    pub(super) fn mark_heads(&mut self, order: &[usize]) {
+    pub(super) fn mark_heads(&mut self, order: &[usize], account: &mut Account) {
         let counts = |at: usize| {
             self.nodes[at].kind != BRIDGE || !self.wrong(Mistake::HottestWithoutBridges)
         };
-        let weights = order.iter().filter(|&&at| counts(at)).map(|&at| self.nodes[at].block.weight);
-        let floor = weights.max().unwrap_or(0) / 100;
-        let heads: Vec<usize> = order
-            .iter()
-            .enumerate()
-            .filter(|&(place, &at)| {
-                (place > 0 || self.wrong(Mistake::FirstIsHead))
-                    && self.nodes[at].block.weight >= floor
-                    && self.entered_from_behind(order, place)
-            })
-            .map(|(_, &at)| at)
-            .collect();
-        for at in heads {
-            self.nodes[at].block.marks |= HEAD;
+        let weight = |at: usize| self.nodes[at].block.weight;
+        let hottest = order.iter().filter(|&&at| counts(at)).map(|&at| weight(at)).max();
+        let hottest = hottest.unwrap_or(0);
+        let past = if self.wrong(Mistake::FirstIsHead) { 0 } else { 1 };
+        let loops = (past..order.len()).filter(|&place| self.entered_from_behind(order, place));
+        let loops: Vec<usize> = loops.map(|place| order[place]).collect();
+        for at in loops {
+            let weight = self.nodes[at].block.weight;
+            account.loops.push(Looped { weight, hottest });
+            if self.heavy_enough(weight, hottest) {
+                self.nodes[at].block.marks |= HEAD;
+            }
         }
+    }
+
+    /// Whether a weight is a hundredth of the hottest.
+    fn heavy_enough(&self, weight: u64, hottest: u64) -> bool {
+        let up = self.wrong(Mistake::HundredthRoundedUp);
+        let floor = if up { hottest.div_ceil(100) } else { hottest / 100 };
+        weight > floor || weight == floor && !self.wrong(Mistake::HeadToPass)
     }
 
     fn entered_from_behind(&self, order: &[usize], place: usize) -> bool {

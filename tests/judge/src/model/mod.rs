@@ -1,94 +1,22 @@
 //! Document 01's layout rules read a second time, and the ways they are easily got wrong.
 //!
 //! The expected layouts are the Rust text's, never this module's. It is here so that a test can
-//! say of the files tried that each mistake would have shown on some of them: a layout is made
-//! with one [`Mistake`], or with none, and the two are compared.
+//! say of the files tried that each mistake would have shown on some of them (a layout is made
+//! with one [`Mistake`], or with none, and the two are compared), and which decisions were made on
+//! the way to their layouts ([`Account`]).
 
+mod account;
 mod exits;
 mod forward;
 mod heads;
+mod mistake;
+mod rotate;
 mod traces;
 
+pub use account::{Account, Back, ROUNDS, Target, Tried, Turned};
+pub use mistake::Mistake;
+
 use crate::records::{ARM, Arm, BLOCK, Block, COLD, Choices, ENTRY, Graph, Laid, NO_SPLIT, record};
-
-/// One rule read wrongly.
-#[derive(Debug, Clone, Copy, PartialEq, Eq)]
-pub enum Mistake {
-    /// A goal is the next block on the chain, not the first that is no way through.
-    GoalIsOneStep,
-    /// An arm moves although its block has an arm to the goal already.
-    MovesNextToAnEqual,
-    /// A block whose address an instruction names is cleared.
-    AddressForgotten,
-    /// Cold spreads to the largest set that feeds itself, around loops.
-    ColdAroundALoop,
-    /// The depth-first order takes the first arm first.
-    FirstArmFirst,
-    /// Without an entry the floors are of no weight at all.
-    NoFloorWithoutEntry,
-    /// A start is chosen by weight before the heaviest arm in.
-    StartByWeight,
-    /// A share is compared by multiplying across, which passes the arms of a block of no weight.
-    ShareAcross,
-    /// Extending takes the last of tied arms.
-    ExtendsByTheLast,
-    /// A trace goes on across a cold mark.
-    ExtendsAcrossCold,
-    /// Rotation takes the first of the last block's tied arms.
-    TurnsByTheFirst,
-    /// A loop turns when its arm back is exactly four fifths.
-    TurnsAtFourFifths,
-    /// A loop through a walking block turns.
-    TurnsWalking,
-    /// A loop is left from a block of three or more arms.
-    LeavesFromMany,
-    /// A trace counts as an earlier start while it is being turned.
-    OwnStartCounts,
-    /// Joining forgets that the longer trace goes first on ties.
-    JoinsByRoundOnly,
-    /// Joining crosses a cold mark.
-    JoinsAcrossCold,
-    /// The warm part's last block has the cold part's first as its next.
-    FallsAcrossTheSplit,
-    /// A bridge is cold because its block is, also where there is no split.
-    BridgeLikeItsBlock,
-    /// A branch whose arms both go to the next block is exchanged.
-    ExchangesEqualArms,
-    /// Any arm to its own or an earlier place makes a head.
-    HeadWithoutLoop,
-    /// The block laid first can be a head.
-    FirstIsHead,
-    /// Bridges do not count for the hottest.
-    HottestWithoutBridges,
-}
-
-impl Mistake {
-    pub const ALL: [Mistake; 23] = [
-        Mistake::GoalIsOneStep,
-        Mistake::MovesNextToAnEqual,
-        Mistake::AddressForgotten,
-        Mistake::ColdAroundALoop,
-        Mistake::FirstArmFirst,
-        Mistake::NoFloorWithoutEntry,
-        Mistake::StartByWeight,
-        Mistake::ShareAcross,
-        Mistake::ExtendsByTheLast,
-        Mistake::ExtendsAcrossCold,
-        Mistake::TurnsByTheFirst,
-        Mistake::TurnsAtFourFifths,
-        Mistake::TurnsWalking,
-        Mistake::LeavesFromMany,
-        Mistake::OwnStartCounts,
-        Mistake::JoinsByRoundOnly,
-        Mistake::JoinsAcrossCold,
-        Mistake::FallsAcrossTheSplit,
-        Mistake::BridgeLikeItsBlock,
-        Mistake::ExchangesEqualArms,
-        Mistake::HeadWithoutLoop,
-        Mistake::FirstIsHead,
-        Mistake::HottestWithoutBridges,
-    ];
-}
 
 /// An arm by the listed place, or the bridge's index, that it goes to.
 #[derive(Clone, Copy)]
@@ -123,24 +51,38 @@ struct Model {
 /// The layout of an accepted graph, with a mistake or without.
 #[must_use]
 pub fn lay(graph: &Graph, choices: Choices, mistake: Option<Mistake>) -> Laid {
+    laid(graph, choices, mistake).0
+}
+
+/// What is decided on the way to the layout of an accepted graph.
+#[must_use]
+pub fn account(graph: &Graph, choices: Choices) -> Account {
+    laid(graph, choices, None).1
+}
+
+fn laid(graph: &Graph, choices: Choices, mistake: Option<Mistake>) -> (Laid, Account) {
     let mut model = Model::of(graph, mistake);
+    let mut account = Account::default();
     let moved = if choices.forward { model.forward() } else { 0 };
     let parted = model.parts();
     if parted {
         model.spread();
     }
-    let order = if choices.reorder { model.traces() } else { model.plain_order() };
+    let plain = model.plain_order();
+    let order = if choices.reorder { model.traces(&plain, &mut account) } else { plain.clone() };
+    account.reordered = order != plain;
     let (order, split) = model.split(order, parted);
     let (order, split) = model.exits(&order, split);
-    model.mark_heads(&order);
+    model.mark_heads(&order, &mut account);
     let bridges = (model.nodes.len() - graph.blocks.len()) as u64;
-    Laid {
+    let laid = Laid {
         bytes: model.records(&order, split),
         blocks: graph.blocks.len() as u64,
         bridges,
         moved,
         split: split.map_or(NO_SPLIT, |place| place as u64),
-    }
+    };
+    (laid, account)
 }
 
 impl Model {

@@ -21,7 +21,7 @@ use Rattle.records.specs.declared.Graph.{Graph}
 use Rattle.records.specs.Tables.{tabled, Apart, Stands}
 use Rattle.forwarding.specs.Forwards as forwarding
 use Rattle.layout.specs.declared.blocks.Placed.{Placed}
-use Rattle.layout.specs.Blocks.{plain, plainSplit, Over, Ready, PlacedOf}
+use Rattle.layout.specs.Blocks.{placesBy, splitBy, Over, Ready, PlacedOf}
 
 -- ---- forwarding, if it is asked for
 
@@ -38,41 +38,42 @@ unfoldable pub laidOut : ℕ → ℕ → ℕ → ℕ → ℕ → Answer
 laidOut bytes blocks bridges moved split =
     record { refusal = 0; place = 0; needed = 0; written = bytes; blocks = blocks; bridges = bridges; moved = moved; split = split }
 
--- a graph laid in plain order and written, of which so many arms had moved before
-unfoldable pub plainOf : graph.Graph → ℕ → List ℕ → Outcome
-plainOf g moved lent =
-    let l = plain g in
-    let out = laidBytes (plainSplit g) l in
+-- a graph laid and written, of which so many arms had moved before
+unfoldable pub outcomeBy : Bool → graph.Graph → ℕ → List ℕ → Outcome
+outcomeBy reorder g moved lent =
+    let l = placesBy reorder g in
+    let out = laidBytes (splitBy reorder g) l in
     let n = length out in
-    cond (ltb (length lent) n) (refused 10 0 n lent) (record { answer = laidOut n (length g) (bridges l) moved (plainSplit g); lent = out ++ drop n lent })
+    cond (ltb (length lent) n) (refused 10 0 n lent) (record { answer = laidOut n (length g) (bridges l) moved (splitBy reorder g); lent = out ++ drop n lent })
 
 -- that is the answer, and what the lent bytes are in the end
-abbrev pub Makes : graph.Graph → ℕ → List ℕ → List ℕ → Answer → Type 0
-Makes g moved before after r = (r ≡ plainOf g moved before .answer) × (after ≡ plainOf g moved before .lent)
+abbrev pub Makes : Bool → graph.Graph → ℕ → List ℕ → List ℕ → Answer → Type 0
+Makes reorder g moved before after r = (r ≡ outcomeBy reorder g moved before .answer) × (after ≡ outcomeBy reorder g moved before .lent)
 
 -- what is laid of a graph has arms to blocks of its own, and marks that leave room for the heads'
-pub record Fit (g : graph.Graph) : Type 0 where
-  pub whole : Whole (laidGraph (plain g))
-  pub low : (p : Place) → In p (plain g) → p .block .marks < marksBelow
+pub record Fit (reorder : Bool) (g : graph.Graph) : Type 0 where
+  pub whole : Whole (laidGraph (placesBy reorder g))
+  pub low : (p : Place) → In p (placesBy reorder g) → p .block .marks < marksBelow
 
 -- some t that can be laid and written has these tables
-pub record Layable (listed marks ends weight : List ℕ) (a : Arms) (n : ℕ) : Type 0 where
+pub record Layable (reorder : Bool) (listed marks ends weight : List ℕ) (a : Arms) (n : ℕ) : Type 0 where
   pub graph : Graph
   pub over : Over graph listed marks ends weight a n
   pub ready : Ready graph
-  pub fit : Fit (tabled graph)
+  pub fit : Fit reorder (tabled graph)
 
 -- for every such t: its graph is laid and written
-abbrev pub LaysOut : List ℕ → List ℕ → List ℕ → List ℕ → Arms → ℕ → ℕ → List ℕ → List ℕ → Answer → Type 0
-LaysOut listed marks ends weight a n moved before after r =
-    (t : Graph) → Over t listed marks ends weight a n → Ready t → Fit (tabled t) → Makes (tabled t) moved before after r
+abbrev pub LaysOut : Bool → List ℕ → List ℕ → List ℕ → List ℕ → Arms → ℕ → ℕ → List ℕ → List ℕ → Answer → Type 0
+LaysOut reorder listed marks ends weight a n moved before after r =
+    (t : Graph) → Over t listed marks ends weight a n → Ready t → Fit reorder (tabled t) → Makes reorder (tabled t) moved before after r
 
 -- the tables have the places of some graph that can be written
 pub record Writable (b : Blocks) (a : Arms) (exits : List ℕ) (p : Placed) : Type 0 where
+  pub reorder : Bool
   pub graph : graph.Graph
-  pub placed : PlacedOf graph b a exits p
-  pub fit : Fit graph
+  pub placed : PlacedOf reorder graph b a exits p
+  pub fit : Fit reorder graph
 
 -- for every such graph of n blocks: it is written
 abbrev pub Writes : Blocks → Arms → List ℕ → Placed → ℕ → ℕ → List ℕ → List ℕ → Answer → Type 0
-Writes b a exits p n moved before after r = (g : graph.Graph) → PlacedOf g b a exits p → Fit g → length g ≡ n → Makes g moved before after r
+Writes b a exits p n moved before after r = (reorder : Bool) (g : graph.Graph) → PlacedOf reorder g b a exits p → Fit reorder g → length g ≡ n → Makes reorder g moved before after r

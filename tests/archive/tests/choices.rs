@@ -1,16 +1,15 @@
-//! `layout_plain` against the Rust text with reordering off: all eight numbers of the answer and
-//! every lent byte, on generated graphs; and against document 01's refusals on broken files.
+//! `layout_blocks` against the Rust text by all four choices of forward and reorder: all eight
+//! numbers of the answer and every lent byte, on generated graphs; and against document 01's
+//! refusals on broken files.
 
 use archive::{Caller, Program, in_shares};
 use judge::breaker;
+use judge::effects::{DECISIONS, EFFECTS};
 use judge::generate;
 use judge::model::{self, Mistake};
 use judge::random::Random;
 use judge::reading::{self, Refused};
-use judge::records::{
-    ARM, Answer, Arm, BLOCK, BRIDGE, Block, COLD, Choices, ENTRY, Graph, HEAD, LONGEST, Laid,
-    NO_SPLIT, RECORD,
-};
+use judge::records::{Answer, Arm, Block, COLD, Choices, ENTRY, Graph, LONGEST, Laid, RECORD};
 use judge::shapes::SHAPES;
 use judge::words;
 use std::collections::BTreeMap;
@@ -25,7 +24,7 @@ static CALLER: LazyLock<Program> = LazyLock::new(|| Program::made("caller", FOLD
 const GRAPHS: u64 = 50_000;
 /// How many damaged files are tried.
 const BROKEN: u64 = 30_000;
-/// How often each shape, each effect and each refusal must be met among them.
+/// How often each shape, effect, decision and refusal must be met among them.
 const LEAST: usize = 100;
 
 /// The longest result: every block has a bridge, and each bridge has an arm.
@@ -36,22 +35,18 @@ fn graphs() -> u64 {
     asked.map_or(GRAPHS, |count| count.parse().expect("LAYOUT_GRAPHS is a number"))
 }
 
-fn plain(forward: bool) -> Choices {
-    Choices { forward, reorder: false }
-}
-
 /// Makes one call over lent bytes with a pattern in them, and says what is not as expected.
 fn call(
     caller: &mut Caller,
     input: &[u8],
-    forward: bool,
+    choices: Choices,
     lent: usize,
     (answer, written): (Answer, Vec<u8>),
 ) -> Result<(), String> {
     let mut expected: Vec<u8> = (0..lent).map(|at| (at * 7 + 13) as u8).collect();
     let mut out = expected.clone();
     expected[..written.len()].copy_from_slice(&written);
-    let found = caller.layout_plain(input, forward, &mut out);
+    let found = caller.layout_blocks(input, choices, &mut out);
     if found != answer {
         return Err(format!("with {lent} lent it answers {found:?}, not {answer:?}"));
     }
@@ -65,55 +60,15 @@ fn call(
 fn compare(
     caller: &mut Caller,
     input: &[u8],
-    forward: bool,
+    choices: Choices,
     expected: &Laid,
 ) -> Result<(), String> {
     let needed = expected.bytes.len();
     let spare = 1 + input.len() % 37;
     for lent in [Some(needed), needed.checked_sub(1), Some(needed + spare)].into_iter().flatten() {
-        call(caller, input, forward, lent, reading::given_room(expected.clone(), lent))?;
+        call(caller, input, choices, lent, reading::given_room(expected.clone(), lent))?;
     }
     Ok(())
-}
-
-/// What laying may do to a graph, by name. The comparison is worth little where it is not met.
-type Effect = (&'static str, fn(&Graph, &Laid) -> bool);
-
-const EFFECTS: [Effect; 15] = [
-    ("arms moved", |_, laid| laid.moved > 0),
-    ("a block cleared", |graph, laid| {
-        of_kind(laid, ARM).count() < graph.arms.len() + laid.bridges as usize
-    }),
-    ("a block made cold", |graph, laid| {
-        let cold = of_kind(laid, BLOCK).filter(|record| record[2] & COLD != 0).count();
-        cold > graph.blocks.iter().filter(|block| block.marked(COLD)).count()
-    }),
-    ("blocks laid otherwise than listed", |graph, laid| {
-        let listed = graph.blocks.iter().map(|block| block.number);
-        !listed.eq(of_kind(laid, BLOCK).map(|record| record[1]))
-    }),
-    ("a split", |_, laid| laid.split != NO_SPLIT),
-    ("a jump", |_, laid| of_kind(laid, BLOCK).any(|record| record[5] == 1)),
-    ("a branch", |_, laid| of_kind(laid, BLOCK).any(|record| record[5] == 2)),
-    ("an exchange", |_, laid| of_kind(laid, BLOCK).any(|record| record[5] == 3)),
-    ("a bridge", |_, laid| laid.bridges > 0),
-    ("a bridge without a split", |_, laid| laid.bridges > 0 && laid.split == NO_SPLIT),
-    ("a bridge before a split", |_, laid| bridged(laid, 0)),
-    ("a bridge behind a split", |_, laid| bridged(laid, COLD)),
-    ("a bridge with arguments", |_, laid| {
-        of_kind(laid, ARM).any(|record| record[1] >= 128 && record[3] == 1)
-    }),
-    ("64 bridges", |_, laid| laid.bridges >= 64),
-    ("a head", |_, laid| of_kind(laid, BLOCK).any(|record| record[2] & HEAD != 0)),
-];
-
-fn of_kind(laid: &Laid, kind: u8) -> impl Iterator<Item = &[u8]> {
-    laid.bytes.chunks_exact(RECORD).filter(move |record| record[0] == kind)
-}
-
-/// Whether there is a split, and a bridge with these marks.
-fn bridged(laid: &Laid, marks: u8) -> bool {
-    laid.split != NO_SPLIT && of_kind(laid, BRIDGE).any(|record| record[2] == marks)
 }
 
 /// What the layouts of a share met, and the difference on the fewest records, if there was one.
@@ -124,26 +79,28 @@ struct Found {
 }
 
 impl Found {
-    /// Lays a graph with and without forwarding.
+    /// Lays a graph by all four choices.
     fn lay(&mut self, caller: &mut Caller, graph: &Graph, name: &str) {
         let input = graph.bytes();
-        for forward in [false, true] {
-            let laid = oracle::lay(graph, plain(forward));
-            self.count(graph, &laid);
-            if let Err(said) = compare(caller, &input, forward, &laid) {
+        self.count(SHAPES.map(|(shape, has)| (shape, has(graph))));
+        for choices in Choices::ALL {
+            let laid = oracle::lay(graph, choices);
+            self.count(EFFECTS.map(|(effect, shows)| (effect, shows(graph, &laid))));
+            if choices.reorder {
+                let account = model::account(graph, choices);
+                self.count(DECISIONS.map(|(decision, made)| (decision, made(&account))));
+            }
+            if let Err(said) = compare(caller, &input, choices, &laid) {
                 let text = words::write(graph);
-                let said = format!("{name}, forward {forward}: {said}\n{text}");
+                let said = format!("{name}, {choices:?}: {said}\n{text}");
                 self.keep((input.len() / RECORD, said));
             }
         }
     }
 
-    fn count(&mut self, graph: &Graph, laid: &Laid) {
-        for (shape, has) in SHAPES {
-            *self.met.entry(shape).or_default() += usize::from(has(graph));
-        }
-        for (effect, shows) in EFFECTS {
-            *self.met.entry(effect).or_default() += usize::from(shows(graph, laid));
+    fn count<const N: usize>(&mut self, asked: [(&'static str, bool); N]) {
+        for (name, met) in asked {
+            *self.met.entry(name).or_default() += usize::from(met);
         }
     }
 
@@ -189,11 +146,11 @@ fn a_graph_is_laid_otherwise_than_by_the_rust() {
     }
     let met = without_difference(lay_share);
     for (name, count) in &met {
-        println!("{count} layouts of or with {name}");
+        println!("{count} times {name}");
     }
-    assert_eq!(met.len(), SHAPES.len() + EFFECTS.len(), "a graph was laid");
+    assert_eq!(met.len(), SHAPES.len() + EFFECTS.len() + DECISIONS.len(), "a graph was laid");
     for (name, count) in met {
-        assert!(count >= LEAST, "only {count} layouts of or with {name}");
+        assert!(count >= LEAST, "only {count} times {name}");
     }
 }
 
@@ -235,10 +192,8 @@ fn two_blocks_are_laid_otherwise_than_by_the_rust() {
         return;
     }
     let met = without_difference(lay_two_blocks);
-    // An arm can move in few of them.
-    assert!(met["arms moved"] >= 80, "arms moved in {}", met["arms moved"]);
-    for effect in ["a block cleared", "a split", "a branch", "a bridge", "a head"] {
-        assert!(met[effect] >= LEAST, "only {} layouts with {effect}", met[effect]);
+    for effect in ["arms moved", "a block cleared", "a split", "a branch", "a bridge", "a head"] {
+        assert!(met[effect] >= LEAST, "only {} times {effect}", met[effect]);
     }
 }
 
@@ -249,38 +204,23 @@ fn the_longest_result_is_cut_or_refused() {
     }
     let mut caller = Caller::started(&CALLER);
     let graph = generate::most_bridges();
-    for forward in [false, true] {
-        let laid = oracle::lay(&graph, plain(forward));
+    for choices in Choices::ALL {
+        let laid = oracle::lay(&graph, choices);
         assert_eq!((laid.bytes.len(), laid.bridges), (LONGEST_RESULT, 128));
-        compare(&mut caller, &graph.bytes(), forward, &laid)
-            .unwrap_or_else(|said| panic!("{said}"));
+        compare(&mut caller, &graph.bytes(), choices, &laid)
+            .unwrap_or_else(|said| panic!("{choices:?}: {said}"));
     }
 }
-
-/// The mistakes that can show in the plain order.
-const PLAIN_MISTAKES: [Mistake; 11] = [
-    Mistake::GoalIsOneStep,
-    Mistake::MovesNextToAnEqual,
-    Mistake::AddressForgotten,
-    Mistake::ColdAroundALoop,
-    Mistake::FirstArmFirst,
-    Mistake::FallsAcrossTheSplit,
-    Mistake::BridgeLikeItsBlock,
-    Mistake::ExchangesEqualArms,
-    Mistake::HeadWithoutLoop,
-    Mistake::FirstIsHead,
-    Mistake::HottestWithoutBridges,
-];
 
 #[test]
 fn a_mistaken_layout_passes_for_the_archives() {
     let mut caller = Caller::started(&CALLER);
-    for mistake in PLAIN_MISTAKES {
+    for mistake in Mistake::ALL {
         let shows = (0..GRAPHS).any(|seed| {
             let graph = generate::graph(seed);
-            let forward = seed % 2 == 0;
-            let laid = model::lay(&graph, plain(forward), Some(mistake));
-            compare(&mut caller, &graph.bytes(), forward, &laid).is_err()
+            let choices = Choices::ALL[seed as usize % 4];
+            let laid = model::lay(&graph, choices, Some(mistake));
+            compare(&mut caller, &graph.bytes(), choices, &laid).is_err()
         });
         assert!(shows, "{mistake:?} differs from the archive on no graph");
     }
@@ -301,7 +241,7 @@ fn refuse_share(first: u64, step: usize) -> [usize; 10] {
         let Err(Refused { number, place }) = reading::read(&bytes) else { continue };
         let lent = random.pick(&[0, 1, bytes.len(), LONGEST_RESULT]);
         let expected = (Answer::refused(number, place), Vec::new());
-        call(&mut caller, &bytes, random.chance(50), lent, expected)
+        call(&mut caller, &bytes, random.pick(&Choices::ALL), lent, expected)
             .unwrap_or_else(|said| panic!("file {seed}: {said}"));
         met[number as usize] += 1;
     }

@@ -35,29 +35,34 @@ use Rattle.reader.specs.declared.Reading.{Reading}
 use Rattle.reader.specs.Reads.{Reads}
 use Rattle.forwarding.specs.Forwards as forwarding
 use Rattle.forwarding.specs.Forwards.{Forwardable, changed}
-use Rattle.layout.specs.Blocks.{plain, Over, Ready}
-use Rattle.layout.specs.Plain.{ForwardsIf, laidOut, plainOf, Fit, Layable, LaysOut}
+use Rattle.layout.specs.Blocks.{placesBy, splitBy, Over, Ready}
+use Rattle.layout.specs.Outcomes.{ForwardsIf, laidOut, outcomeBy, Fit, Layable, LaysOut}
 use Rattle.layout.proofs.BlockLaws.{stands-own}
 
-laid-plain : (b : Bool) (g : graph.Graph) → plain (asked b g) ≡ layout b false g
-unfolding layout readied ordered
-laid-plain true g = refl
-laid-plain false g = refl
+laid-places : (b reorder : Bool) (g : graph.Graph) → placesBy reorder (asked b g) ≡ layout b reorder g
+unfolding layout readied
+laid-places true reorder g = refl
+laid-places false reorder g = refl
 
-laid-marks : (b : Bool) (g : graph.Graph) → MarksLow g → (p : Place) → In p (layout b false g) → p .block .marks < most.marksBelow
+laid-split : (b reorder : Bool) (g : graph.Graph) → splitBy reorder (asked b g) ≡ splitOf b reorder g
+unfolding splitOf readied
+laid-split true reorder g = refl
+laid-split false reorder g = refl
+
+laid-marks : (b reorder : Bool) (g : graph.Graph) → MarksLow g → (p : Place) → In p (layout b reorder g) → p .block .marks < most.marksBelow
 unfolding layout
-laid-marks b g l p i = lay-marks (readied b g) (readied-marks b g l) (ordered false (readied b g)) p i
+laid-marks b reorder g l p i = lay-marks (readied b g) (readied-marks b g l) (ordered reorder (readied b g)) p i
 
 -- what is asked of a graph, laid
-asked-laid : (b : Bool) (g : graph.Graph) (d : List ℕ) → length (asked b g) ≡ length g → plainOf (asked b g) (cond b (moves g) 0) d ≡ layoutOf b false g d
-unfolding plainOf layoutOf laidOut laid layout splitOf readied ordered
-asked-laid true g d e = rw e
-asked-laid false g d e = refl
+asked-laid : (b reorder : Bool) (g : graph.Graph) (d : List ℕ) → length (asked b g) ≡ length g → outcomeBy reorder (asked b g) (cond b (moves g) 0) d ≡ layoutOf b reorder g d
+unfolding outcomeBy layoutOf laidOut laid layout splitOf readied
+asked-laid true reorder g d e = rw e
+asked-laid false reorder g d e = refl
 
-module _ (s d : List ℕ) (on : Bool) (b : Blocks) (a : Arms) (r : Reading) (h : Reads s b a r) where
-  pub plain-refused : (r .verdict .number ≡ 0 → ⊥) → (refusal (r .verdict .number) (r .verdict .place) 0 ≡ layoutBlocks on false s d .answer) × (d ≡ layoutBlocks on false s d .lent)
+module _ (s d : List ℕ) (on reorder : Bool) (b : Blocks) (a : Arms) (r : Reading) (h : Reads s b a r) where
+  pub file-refused : (r .verdict .number ≡ 0 → ⊥) → (refusal (r .verdict .number) (r .verdict .place) 0 ≡ layoutBlocks on reorder s d .answer) × (d ≡ layoutBlocks on reorder s d .lent)
   unfolding layoutBlocks refused
-  plain-refused z =
+  file-refused z =
       let n : verdict s .number ≡ 0 → ⊥ = λ q. z (ap (λ (v : Verdict). v .number) (h .verdict-is) ∙ q) in
       (simp (h .verdict-is, ne-eqb _ _ n), simp (ne-eqb _ _ n))
 
@@ -68,7 +73,7 @@ module _ (s d : List ℕ) (on : Bool) (b : Blocks) (a : Arms) (r : Reading) (h :
     G : graph.Graph
     G = graphOf (records s)
 
-    fine : verdict s .number ≡ 0
+    pub fine : verdict s .number ≡ 0
     fine = ap (λ (v : Verdict). v .number) (sym (h .verdict-is)) ∙ z
 
     held : Holds t G
@@ -127,7 +132,7 @@ module _ (s d : List ℕ) (on : Bool) (b : Blocks) (a : Arms) (r : Reading) (h :
       asked-total true = omega (arith, forward-total (tabled t), total)
       asked-total false = total
 
-      ready : Ready u
+      pub ready : Ready (changed (record { blocks = r .blocks; arms = r .arms; b = b; a = a }) marks weight count′ to)
       ready =
           record {
             stands = stands-own (made .0);
@@ -138,38 +143,47 @@ module _ (s d : List ℕ) (on : Bool) (b : Blocks) (a : Arms) (r : Reading) (h :
       from-is : tabled u ≡ asked on G
       from-is = made .0 .graph-is ∙ ap (asked on) is
 
-      plain-is : plain (tabled u) ≡ layout on false G
-      plain-is = ap plain from-is ∙ laid-plain on G
+      places-are : placesBy reorder (tabled u) ≡ layout on reorder G
+      places-are = ap (placesBy reorder) from-is ∙ laid-places on reorder G
 
-      fit : Fit (tabled u)
+      pub fit : Fit reorder (tabled (changed (record { blocks = r .blocks; arms = r .arms; b = b; a = a }) marks weight count′ to))
       unfolding G
       fit =
           record {
-            whole = subst (λ (x : List Place). Whole (laidGraph x)) (sym plain-is) (laid-whole G sound-file on false);
-            low = λ p i. laid-marks on G (accepted-marks s) p (subst (In p) plain-is i);
+            whole = subst (λ (x : List Place). Whole (laidGraph x)) (sym places-are) (laid-whole G sound-file on reorder);
+            low = λ p i. laid-marks on reorder G (accepted-marks s) p (subst (In p) places-are i);
           }
 
-      over-made : Over u (b .listed) marks (b .ends) weight (armTables (a .first) count′ to (a .args) (a .weight)) (r .blocks)
+      pub over-made : Over (changed (record { blocks = r .blocks; arms = r .arms; b = b; a = a }) marks weight count′ to) (b .listed) marks (b .ends) weight (armTables (a .first) count′ to (a .args) (a .weight)) (r .blocks)
       over-made = record { listed-is = refl; marks-is = refl; ends-is = refl; weight-is = refl; arms-are = refl; blocks-is = refl }
 
+      -- where they are laid is what is asked of the file
+      pub laid-as : placesBy reorder (tabled (changed (record { blocks = r .blocks; arms = r .arms; b = b; a = a }) marks weight count′ to)) ≡ layout on reorder (graphOf (records s))
+      unfolding G
+      laid-as = places-are
+
+      pub split-as : splitBy reorder (tabled (changed (record { blocks = r .blocks; arms = r .arms; b = b; a = a }) marks weight count′ to)) ≡ splitOf on reorder (graphOf (records s))
+      unfolding G
+      split-as = ap (splitBy reorder) from-is ∙ laid-split on reorder G
+
       -- the tables as forwarded can be laid
-      pub can-lay-out : Layable (b .listed) marks (b .ends) weight (armTables (a .first) count′ to (a .args) (a .weight)) (r .blocks)
+      pub can-lay-out : Layable reorder (b .listed) marks (b .ends) weight (armTables (a .first) count′ to (a .args) (a .weight)) (r .blocks)
       can-lay-out = record { graph = u; over = over-made; ready = ready; fit = fit }
 
       long : length (asked on G) ≡ length G
       unfolding tabled
       long = ap length (sym from-is) ∙ upTo-length (u .b) (u .a) (u .blocks) ∙ sym count ∙ ap length is
 
-      outcome : plainOf (tabled u) moved d ≡ layoutBlocks on false s d
+      outcome : outcomeBy reorder (tabled u) moved d ≡ layoutBlocks on reorder s d
       unfolding layoutBlocks G
       outcome =
-          ap₂ (λ (x : graph.Graph) (m : ℕ). plainOf x m d) from-is (made .1 ∙ ap (λ (x : graph.Graph). cond on (moves x) 0) is)
-          ∙ asked-laid on G d long
+          ap₂ (λ (x : graph.Graph) (m : ℕ). outcomeBy reorder x m d) from-is (made .1 ∙ ap (λ (x : graph.Graph). cond on (moves x) 0) is)
+          ∙ asked-laid on reorder G d long
           ∙ simp (eq-eqb _ _ fine)
 
-      pub plain-laid : (after : List ℕ) (answer : Answer)
-          → LaysOut (b .listed) marks (b .ends) weight (armTables (a .first) count′ to (a .args) (a .weight)) (r .blocks) moved d after answer
-          → (answer ≡ layoutBlocks on false s d .answer) × (after ≡ layoutBlocks on false s d .lent)
-      plain-laid after answer l =
+      pub file-laid : (after : List ℕ) (answer : Answer)
+          → LaysOut reorder (b .listed) marks (b .ends) weight (armTables (a .first) count′ to (a .args) (a .weight)) (r .blocks) moved d after answer
+          → (answer ≡ layoutBlocks on reorder s d .answer) × (after ≡ layoutBlocks on reorder s d .lent)
+      file-laid after answer l =
           let m = l u over-made ready fit in
           (m .0 ∙ ap (λ (x : Outcome). x .answer) outcome, m .1 ∙ ap (λ (x : Outcome). x .lent) outcome)

@@ -1,8 +1,0 @@
--- `layout::layout_plain` meets its contract: the tables are zeros before the file is read.
-use Rattle.layout.proofs.ZeroLaws.{none-read}
-use borrow.Author.Needs.{needs}
-use Rattle.layout.proofs.layout_plain.Statement.{statement}
-use Rattle.layout.proofs.layout_plain.Tie as tie
-
-pub layout-plain-spec : {M : Type 1} → statement M
-layout-plain-spec = tie.close (tie.spec (λ c κs. none-read) (λ c. search needs) (λ c. search needs))
