@@ -26,7 +26,8 @@ pub struct Arms {
     pub weight: [u64; ARMS],
 }
 
-// The working state: how many blocks and arms there are, and the tables.
+// How many blocks and arms there are, and the tables. Contracts speak of these structs; the code holds each table as an
+// array of its own and lends it, which a struct cannot be.
 pub struct Graph {
     pub blocks: usize,
     pub arms: usize,
