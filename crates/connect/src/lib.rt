@@ -1,6 +1,5 @@
-// The traces put one after the other, those that fall into each other next to each other. From each unused trace in turn
-// this follows the last block's arms on to unused traces; a trace is joined at its first block only, because anywhere
-// else it would be cut in half.
+// The traces put one after the other. From each unused trace in turn, the next one is that which an arm of the last block
+// enters at its first block, as long as there is one that is unused; traces stay whole.
 use limits::ARMS;
 use limits::BLOCKS;
 use records::Order;

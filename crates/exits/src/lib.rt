@@ -27,7 +27,7 @@ fn leaves_indirectly(end: u8) -> bool
     if end < 3 { false } else { end < 5 }
 }
 
-// A block that goes to one place, which either follows it or has to be jumped to.
+// A block with one arm: nothing where its target is laid next, else a jump.
 fn one(end: u8, next: bool) -> Leaving
     ensures { λ r. ⌜ r ≡ leavingOf end 1 next next ⌝ }
 {

@@ -1,7 +1,7 @@
 // Heads: where a loop is entered from behind, whose blocks are padded.
 //
-// Never the block at the first place, which is on its boundary already. Nor a loop that hardly runs: padding is size,
-// so a head runs at least a hundredth as often as the hottest block.
+// The first place is never one, and neither is a block that weighs less than the hottest weight divided by 100, rounded
+// down.
 use limits::ARMS;
 use limits::BLOCKS;
 ghost use mathlib.Core.Path.{_≡_};
@@ -13,7 +13,7 @@ ghost use Rattle.marks.specs.Sets.{room, member};
 ghost use Rattle.heads.specs.Heading.{hotTo, behind, armsBack, tables, backTo, heads, headTo, Enterable};
 ghost use Rattle.heads.specs.Lent.{LentPlaced, HeadsOver};
 
-// How many times less often than the hottest block a head may run.
+// What the hottest weight is divided by, for the least weight of a head.
 const ALIGN_THRESHOLD: u64 = 100;
 
 fn greater(a: u64, b: u64) -> u64

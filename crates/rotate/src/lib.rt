@@ -1,6 +1,6 @@
 // A trace that ends in a loop is turned as it ends, so that the loop is left by falling through. The part that turns
-// starts where the last block's heaviest arm goes, and its best way out becomes its end. It is done only for a loop
-// that goes round four times or more each time it is entered, since turning costs a jump into it.
+// starts where the last block's heaviest arm goes, and its best way out becomes its end. That arm must have more than
+// four fifths of its target's weight: a loop that is seldom gone round stays as it is.
 use flow::Choice;
 use limits::ARMS;
 use limits::BLOCKS;

@@ -13,7 +13,7 @@ struct Exit {
 }
 
 impl Model {
-    /// Turns the loop that a trace ends in, so that the block it is left from comes last.
+    /// The loop at the end of a trace, turned: the block with the chosen exit goes last.
     pub(super) fn rotate(&self, trace: &mut [usize], found: &Found, account: &mut Account) {
         let Some(arm) = self.back(trace, found, account) else { return };
         let Some(from) = self.goes_back(trace, arm) else { return };
