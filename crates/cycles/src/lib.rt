@@ -4,14 +4,13 @@
 // the second against them, from the last that was finished on, and what it reaches from one block is one piece.
 use limits::ARMS;
 use limits::BLOCKS;
-use stack::Stack;
 ghost use mathlib.Core.Path.{_≡_};
 ghost use mathlib.Core.List.{List};
 ghost use Prim.Native.Nat.{ℕ, suc, _+_, _≤_, _<_};
 ghost use lib.ListN.{length, getD};
 ghost use Rattle.limits.specs.Limits.{blocks, arms};
 ghost use Rattle.lists.specs.Marked.{marked};
-ghost use Rattle.stack.specs.Frames.{stackOf};
+ghost use Rattle.stack.specs.Frames.{Roomy, frames};
 ghost use Rattle.cycles.specs.Inward.{Linked, Sized, Lists, added, entered, ins, Linkable};
 ghost use Rattle.cycles.specs.Gathering.{blocksOn, Listing, Gathered, Collected, Inward, Sorted};
 ghost use Rattle.cycles.specs.Pieces.{LentWithin, PiecesOver};
@@ -87,20 +86,22 @@ fn link_all<'a>(
 }
 
 // Of the list that starts at `start`, the blocks that are in no piece: they are in this one, and on the stack.
-fn gather<'a>(
+fn gather<'a, 's>(
     next: &'a [u16; ARMS],
     from: &'a [u16; ARMS],
     start: usize,
     number: u16,
-    below: Stack,
+    waiting: &'s mut [u16; stack::ROOM],
+    started: &'s mut [u16; stack::ROOM],
+    below: usize,
     piece: &mut [u16; BLOCKS],
-) -> Stack
+) -> usize
     requires { ⌜ (length (now next) ≡ arms) × (length (now from) ≡ arms) × Listing (now next) (now from) start × (0 < number) ⌝ }
-    requires { ⌜ (length (now piece) ≡ blocks) × (below .len ≤ marked (now piece) blocks) ⌝ }
-    ensures { λ r. ⌜ (length (now (piece .exit)) ≡ blocks) × (r .len + marked (now (piece .entry)) blocks ≡ below .len + marked (now (piece .exit)) blocks) ⌝ }
-    ensures { λ r. ⌜ ((w : List ℕ) → Linked (now (next .entry)) (now (from .entry)) arms start w → Gathered w number (now (piece .entry)) (blocksOn (stackOf below)) (now (piece .exit)) (blocksOn (stackOf r))) ⌝ }
+    requires { ⌜ (length (now piece) ≡ blocks) × (below ≤ marked (now piece) blocks) × Roomy (now waiting) (now started) ⌝ }
+    ensures { λ r. ⌜ (length (now (piece .exit)) ≡ blocks) × (r + marked (now (piece .entry)) blocks ≡ below + marked (now (piece .exit)) blocks) × Roomy (now (waiting .exit)) (now (started .exit)) ⌝ }
+    ensures { λ r. ⌜ ((w : List ℕ) → Linked (now (next .entry)) (now (from .entry)) arms start w → Gathered w number (now (piece .entry)) (blocksOn (frames (now (waiting .entry)) (now (started .entry)) below)) (now (piece .exit)) (blocksOn (frames (now (waiting .exit)) (now (started .exit)) r))) ⌝ }
 {
-    let mut stack = below;
+    let mut len = below;
     let mut k = start;
     while 0 < k {
         let m = from[k - 1];
@@ -110,9 +111,9 @@ fn gather<'a>(
         }
         let b = lists::wide(m);
         piece[b] = number;
-        stack = stack.push(m, 0);
+        len = stack::put(waiting, started, len, m, 0);
     }
-    stack
+    len
 }
 
 // The piece of a block that is in none, under its own number and 1: all that lead to it and are in no piece.
@@ -131,14 +132,24 @@ fn collect<'a>(
     let number = root + 1;
     let b = lists::wide(root);
     piece[b] = number;
-    let none = Stack::empty();
-    let mut stack = none.push(root, 0);
-    while 0 < stack.len {
-        let p = stack.pop();
+    let mut waiting: [u16; stack::ROOM] = [0; stack::ROOM];
+    let mut started: [u16; stack::ROOM] = [0; stack::ROOM];
+    let mut len = stack::put(&mut waiting, &mut started, 0, root, 0);
+    while 0 < len {
+        let p = stack::take(&mut waiting, &mut started, len);
         let block = p.block;
-        let rest = p.stack;
+        let rest = p.len;
         let k = lists::entry_of(head, block);
-        stack = gather(next, from, k, number, rest, piece);
+        len = gather(
+            next,
+            from,
+            k,
+            number,
+            &mut waiting,
+            &mut started,
+            rest,
+            piece,
+        );
     }
 }
 

@@ -3,7 +3,6 @@ use limits::ARMS;
 use limits::BLOCKS;
 use records::Order;
 use records::entry;
-use stack::Stack;
 ghost use mathlib.Core.Path.{_≡_};
 ghost use mathlib.Core.Bool.{false, not};
 ghost use mathlib.Core.List.{_++_};
@@ -13,7 +12,7 @@ ghost use Rattle.limits.specs.Limits.{numbers, mostArms, blocks, arms};
 ghost use Rattle.rules.specs.Lists.{keep};
 ghost use Rattle.records.specs.Tables.{inOrder};
 ghost use Rattle.marks.specs.Sets.{room, member, size};
-ghost use Rattle.stack.specs.Frames.{stackOf};
+ghost use Rattle.stack.specs.Frames.{Roomy, frames};
 ghost use Rattle.walks.specs.Walking.{lastFirst, Counts, Started, Walks, Begins, Visits, Enters, Reaches, backwards, Roots, VisitsAll};
 ghost use Rattle.walks.specs.Lent.{Lent, LentMarked, Ordered, FinishedAll};
 
@@ -32,44 +31,46 @@ fn leads_to<'a>(
     to[f + (n - 1 - next as usize)]
 }
 
-// The walk from a stack on until it is empty: a removal for each arm and for each block that is finished.
-// The target is looked at before its block goes back, since each stack with a name of its own is one copy more.
-fn walk<'a>(
+// The walk from a stack of n entries on, in storage that is lent, until it is empty: a removal for each arm and for each
+// block that is finished.
+fn walk<'a, 's>(
     first: &'a [u16; BLOCKS],
     count: &'a [u16; BLOCKS],
     to: &'a [u16; ARMS],
-    start: Stack,
+    waiting: &'s mut [u16; stack::ROOM],
+    started: &'s mut [u16; stack::ROOM],
+    n: usize,
     seen: &mut [u8; marks::ROOM],
     done: &mut [u16; BLOCKS],
     finished: usize,
 ) -> usize
-    requires { ⌜ Started (now first) (now count) (now to) (stackOf start) ⌝ }
-    requires { ⌜ (length (now seen) ≡ room) × (length (now done) ≡ blocks) × (start .len + finished ≡ size (now seen)) ⌝ }
+    requires { ⌜ Started (now first) (now count) (now to) (frames (now waiting) (now started) n) ⌝ }
+    requires { ⌜ (length (now seen) ≡ room) × (length (now done) ≡ blocks) × (n + finished ≡ size (now seen)) × Roomy (now waiting) (now started) ⌝ }
     ensures { λ r. ⌜ Counts (now (seen .exit)) (now (done .exit)) r ⌝ }
-    ensures { λ r. ⌜ Walks (now (first .entry)) (now (count .entry)) (now (to .entry)) (stackOf start) (now (seen .entry)) (now (done .entry)) finished (now (seen .exit)) (now (done .exit)) r ⌝ }
+    ensures { λ r. ⌜ Walks (now (first .entry)) (now (count .entry)) (now (to .entry)) (frames (now (waiting .entry)) (now (started .entry)) n) (now (seen .entry)) (now (done .entry)) finished (now (seen .exit)) (now (done .exit)) r ⌝ }
 {
     let mut at = finished;
-    let mut stack = start;
-    while 0 < stack.len {
-        let p = stack.pop();
+    let mut len = n;
+    while 0 < len {
+        let p = stack::take(waiting, started, len);
         let block = p.block;
         let arm = p.arm;
-        let rest = p.stack;
-        let n = lists::entry_of(count, block);
-        if n <= arm as usize {
+        let rest = p.len;
+        let k = lists::entry_of(count, block);
+        if k <= arm as usize {
             done[at] = block;
             at = at + 1;
-            stack = rest;
+            len = rest;
             continue;
         }
-        let t = leads_to(first, to, block, n, arm);
+        let t = leads_to(first, to, block, k, arm);
         if marks::is_marked(seen, t) {
-            stack = rest.push(block, arm + 1);
+            len = stack::put(waiting, started, rest, block, arm + 1);
             continue;
         }
         marks::mark(seen, t);
-        let up = rest.push(block, arm + 1);
-        stack = up.push(t, 0);
+        let up = stack::put(waiting, started, rest, block, arm + 1);
+        len = stack::put(waiting, started, up, t, 0);
     }
     at
 }
@@ -94,9 +95,20 @@ pub fn visit<'a>(
         return finished;
     }
     marks::mark(seen, root);
-    let none = Stack::empty();
-    let start = none.push(root, 0);
-    walk(first, count, to, start, seen, done, finished)
+    let mut waiting: [u16; stack::ROOM] = [0; stack::ROOM];
+    let mut started: [u16; stack::ROOM] = [0; stack::ROOM];
+    let n = stack::put(&mut waiting, &mut started, 0, root, 0);
+    walk(
+        first,
+        count,
+        to,
+        &mut waiting,
+        &mut started,
+        n,
+        seen,
+        done,
+        finished,
+    )
 }
 
 // The walk from the entry, if there is one, with no block marked before.
