@@ -2,7 +2,7 @@
 use Rattle.std.specs.Prelude.{ℕ, ◌≤◌, ◌<◌, ◌≡◌, Bool, not, cond, ◌&&◌, List, leb, ltb, get_or}
 use Rattle.std.specs.Bool.{beq}
 use Rattle.rules.specs.Graph as graph
-use Rattle.rules.specs.Graph.{isCold}
+use Rattle.rules.specs.Graph.{is_cold}
 use Rattle.rules.specs.Weights.{share}
 use Rattle.rules.specs.Traces.{along}
 use Rattle.records.specs.declared.Graph.{Graph}
@@ -10,14 +10,14 @@ use Rattle.records.specs.Tables.{tabled}
 use Rattle.marks.specs.Sets.{member}
 use Rattle.flow.specs.declared.Choice.{Choice}
 use Rattle.flow.specs.declared.Choice.TheVariants.{Arm, Nothing}
-use Rattle.flow.specs.Lent.{Flows, Of, Marks, armOf}
+use Rattle.flow.specs.Lent.{Flows, Of, Marks, arm_of}
 
 -- arm q fits, for a block that is cold or not and weighs `whole`
 unfoldable pub fits_by : List ℕ → List ℕ → List ℕ → List ℕ → Bool → ℕ → ℕ → ℕ → ℕ → Bool
 fits_by marks to heft seen cold whole likely low q =
     let n = get_or to q 0 in
     let w = get_or heft q 0 in
-    not (member seen n) && beq cold (isCold (get_or marks n 0)) && leb low w && leb likely (share w whole)
+    not (member seen n) && beq cold (is_cold (get_or marks n 0)) && leb low w && leb likely (share w whole)
 
 -- the heavier of the best arm so far and arm q, the former on ties
 unfoldable pub heavier : List ℕ → Choice → ℕ → Choice
@@ -33,4 +33,4 @@ Within a b Nothing = Unit {0}
 abbrev pub GoesOn : List ℕ → List ℕ → List ℕ → List ℕ → List ℕ → List ℕ → List ℕ → ℕ → ℕ → ℕ → Choice → Type 0
 GoesOn marks weight first count to heft seen likely low n r =
     (t : Graph) → Flows t marks weight first count to heft → Of t n →
-    (laid : List ℕ) → Marks seen laid → armOf t.a r ≡ along (tabled t) laid likely low (graph.block_at (tabled t) n)
+    (laid : List ℕ) → Marks seen laid → arm_of t.a r ≡ along (tabled t) laid likely low (graph.block_at (tabled t) n)

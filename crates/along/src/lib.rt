@@ -1,5 +1,7 @@
 // The arm by which a trace goes on from its last block: the heaviest, the first on ties, to an unlaid block on the same
 // side of the split, if the arm is heavy enough by itself and for its block.
+#![tactic(auto)]
+
 ghost use Rattle.std.specs.Prelude.{◌≡◌, ◌+◌, ◌≤◌, ◌<◌, length, get_or};
 ghost use Rattle.limits.specs.Limits.{blocks, arms};
 ghost use Rattle.rules.specs.Weights.{scale};

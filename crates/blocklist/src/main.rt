@@ -1,5 +1,7 @@
 // Reads records from standard input and prints how their blocks are laid, forwarded and reordered; or `refused N at P`.
 // All that decides anything is in `lister`: this program moves bytes.
+#![tactic(auto)]
+
 ghost use Rattle.io.specs.Counts.{IsPrefixLen};
 
 // How many of buf's bytes n are, at most all.

@@ -15,58 +15,58 @@ use borrow.Author.Tests.{eq-eqb, ne_eqb, eqb-true, eqb-false}
 use Rattle.limits.specs.Limits.{blocks}
 use Rattle.rules.specs.Lists.{pick, keep, any}
 use Rattle.rules.specs.Graph as graph
-use Rattle.rules.specs.Graph.{bit, isCold, coldAt, numbersOf, entry}
-use Rattle.rules.specs.Spread.{warmEntry}
-use Rattle.rules.specs.Split.{splits, warmPart, coldPart}
+use Rattle.rules.specs.Graph.{bit, is_cold, cold_at, numbers_of, entry}
+use Rattle.rules.specs.Spread.{warm_entry}
+use Rattle.rules.specs.Split.{splits, warm_part, cold_part}
 use Rattle.rules.proofs.Membership.{In, keep_append}
 use Rattle.rules.proofs.Wholeness.{entry_in}
 use Rattle.records.specs.declared.Blocks.{Blocks}
 use Rattle.records.specs.declared.Arms.{Arms}
-use Rattle.records.specs.Tables.{block_at, up_to, optional, onlyBlocks, noArms}
-use Rattle.records.proofs.StandLaws.{find-in, entry-same}
-use Rattle.lists.proofs.Choices.{split-bool}
-use Rattle.cold.specs.Sides.{anyCold, splitsBy, onSide, Gathered}
+use Rattle.records.specs.Tables.{block_at, up_to, optional, only_blocks, no_arms}
+use Rattle.records.proofs.StandLaws.{find_in, entry_same}
+use Rattle.lists.proofs.Choices.{split_bool}
+use Rattle.cold.specs.Sides.{any_cold, splits_by, on_side, Gathered}
 
 -- ---- the mark
-pub cold-bit : (m : ℕ) → eqb (m / 2 % 2) 1 ≡ isCold m
-unfolding isCold bit
-cold-bit m = refl
+pub cold_bit : (m : ℕ) → eqb (m / 2 % 2) 1 ≡ is_cold m
+unfolding is_cold bit
+cold_bit m = refl
 
-pub cold_is : (m : ℕ) → m / 2 % 2 ≡ 1 → isCold m ≡ true
-cold_is m e = sym (cold-bit m) ∙ eq-eqb (m / 2 % 2) 1 e
+pub cold_is : (m : ℕ) → m / 2 % 2 ≡ 1 → is_cold m ≡ true
+cold_is m e = sym (cold_bit m) ∙ eq-eqb (m / 2 % 2) 1 e
 
-pub warm-is : (m : ℕ) → m / 2 % 2 ≡ 0 → isCold m ≡ false
-warm-is m e = sym (cold-bit m) ∙ ne_eqb (m / 2 % 2) 1 (λ q. omega (arith, e, q))
+pub warm_is : (m : ℕ) → m / 2 % 2 ≡ 0 → is_cold m ≡ false
+warm_is m e = sym (cold_bit m) ∙ ne_eqb (m / 2 % 2) 1 (λ q. omega (arith, e, q))
 
-pub is-cold : (m : ℕ) → isCold m ≡ true → m / 2 % 2 ≡ 1
-is-cold m e = eqb-true (m / 2 % 2) 1 (cold-bit m ∙ e)
+pub is_cold_lem : (m : ℕ) → is_cold m ≡ true → m / 2 % 2 ≡ 1
+is_cold_lem m e = eqb-true (m / 2 % 2) 1 (cold_bit m ∙ e)
 
-pub is-warm : (m : ℕ) → isCold m ≡ false → m / 2 % 2 ≡ 0
-is-warm m e = let d : m / 2 % 2 ≡ 1 → ⊥ = eqb-false (m / 2 % 2) 1 (cold-bit m ∙ e) in omega (arith, d)
+pub is_warm : (m : ℕ) → is_cold m ≡ false → m / 2 % 2 ≡ 0
+is_warm m e = let d : m / 2 % 2 ≡ 1 → ⊥ = eqb-false (m / 2 % 2) 1 (cold_bit m ∙ e) in omega (arith, d)
 
-warm-bit : (m : ℕ) → not (isCold m) ≡ eqb (m / 2 % 2) 0
-warm-bit m =
-    split-bool (isCold m) (λ e. rw e (sym (ne_eqb (m / 2 % 2) 0 (λ q. omega (arith, is-cold m e, q))))) (λ e. rw e (sym (eq-eqb (m / 2 % 2) 0 (is-warm m e))))
+warm_bit : (m : ℕ) → not (is_cold m) ≡ eqb (m / 2 % 2) 0
+warm_bit m =
+    split_bool (is_cold m) (λ e. rw e (sym (ne_eqb (m / 2 % 2) 0 (λ q. omega (arith, is_cold_lem m e, q))))) (λ e. rw e (sym (eq-eqb (m / 2 % 2) 0 (is_warm m e))))
 
 -- ---- a cold block
 module _ (listed marks : List ℕ) where
-  pub any_next : (i : ℕ) → anyCold listed marks i ≡ false → isCold (get_or marks (get_or listed i 0) 0) ≡ false → anyCold listed marks (i + 1) ≡ false
-  unfolding anyCold
+  pub any_next : (i : ℕ) → any_cold listed marks i ≡ false → is_cold (get_or marks (get_or listed i 0) 0) ≡ false → any_cold listed marks (i + 1) ≡ false
+  unfolding any_cold
   any_next i e f = rw (add-one i) (rw (e, f) refl)
 
-  any-stays : (i k : ℕ) → isCold (get_or marks (get_or listed i 0) 0) ≡ true → anyCold listed marks (suc i + k) ≡ true
-  unfolding anyCold
-  any-stays i zero e = rw (add-zero (suc i)) (rw e (or-true (anyCold listed marks i)))
+  any_stays : (i k : ℕ) → is_cold (get_or marks (get_or listed i 0) 0) ≡ true → any_cold listed marks (suc i + k) ≡ true
+  unfolding any_cold
+  any_stays i zero e = rw (add-zero (suc i)) (rw e (or_true (any_cold listed marks i)))
     where
-      or-true : (b : Bool) → b || true ≡ true
-      or-true true = refl
-      or-true false = refl
-  any-stays i (suc k) e = rw (add-suc (suc i) k) (rw (any-stays i k e) refl)
+      or_true : (b : Bool) → b || true ≡ true
+      or_true true = refl
+      or_true false = refl
+  any_stays i (suc k) e = rw (add-suc (suc i) k) (rw (any_stays i k e) refl)
 
-  pub any_found : (i n : ℕ) → i < n → isCold (get_or marks (get_or listed i 0) 0) ≡ true → true ≡ anyCold listed marks n
+  pub any_found : (i n : ℕ) → i < n → is_cold (get_or marks (get_or listed i 0) 0) ≡ true → true ≡ any_cold listed marks n
   any_found i n h e =
       let q : suc i + (n - suc i) ≡ n = omega (arith, h) in
-      sym (subst (λ (m : ℕ). anyCold listed marks m ≡ true) q (any-stays i (n - suc i) e))
+      sym (subst (λ (m : ℕ). any_cold listed marks m ≡ true) q (any_stays i (n - suc i) e))
 
 any_append : {A : Type 0} (p : A → Bool) (s t : List A) → any p (s ++ t) ≡ any p s || any p t
 unfolding any
@@ -77,41 +77,41 @@ any_append p (x ∷ s) t = rw (any_append p s t) (go (p x) (any p s) (any p t))
     go true b c = refl
     go false b c = refl
 
-or-none : (b c : Bool) → b || (c || false) ≡ b || c
-or-none true c = refl
-or-none false true = refl
-or-none false false = refl
+or_none : (b c : Bool) → b || (c || false) ≡ b || c
+or_none true c = refl
+or_none false true = refl
+or_none false false = refl
 
 module _ (b : Blocks) (a : Arms) where
-  pub any-is : (n : ℕ) → any (λ (x : graph.Block). isCold x.marks) (up_to b a n) ≡ anyCold b.listed b.marks n
-  unfolding any up_to anyCold block_at
-  any-is zero = refl
-  any-is (suc n) =
-      any_append (λ (x : graph.Block). isCold x.marks) (up_to b a n) (block_at b a (get_or b.listed n 0) ∷ [])
-      ∙ rw (any-is n) (or-none (anyCold b.listed b.marks n) (isCold (get_or b.marks (get_or b.listed n 0) 0)))
+  pub any_is : (n : ℕ) → any (λ (x : graph.Block). is_cold x.marks) (up_to b a n) ≡ any_cold b.listed b.marks n
+  unfolding any up_to any_cold block_at
+  any_is zero = refl
+  any_is (suc n) =
+      any_append (λ (x : graph.Block). is_cold x.marks) (up_to b a n) (block_at b a (get_or b.listed n 0) ∷ [])
+      ∙ rw (any_is n) (or_none (any_cold b.listed b.marks n) (is_cold (get_or b.marks (get_or b.listed n 0) 0)))
 
   -- a listed block is cold by its mark
-  pub cold-at : (n k : ℕ) → In k (numbersOf (up_to b a n)) → coldAt (up_to b a n) k ≡ isCold (get_or b.marks k 0)
-  unfolding coldAt block_at
-  cold-at n k i = ap (λ (x : graph.Block). isCold x.marks) (find-in b a n k i)
+  pub cold_at_lem : (n k : ℕ) → In k (numbers_of (up_to b a n)) → cold_at (up_to b a n) k ≡ is_cold (get_or b.marks k 0)
+  unfolding cold_at block_at
+  cold_at_lem n k i = ap (λ (x : graph.Block). is_cold x.marks) (find_in b a n k i)
 
-  warm-entry : (n : ℕ) (o : Option ℕ) → entry (up_to b a n) ≡ o → warmEntry (up_to b a n) ≡ elim o as (λ (x : Option ℕ). Bool) [ none ↦ false | some e ↦ not (isCold (get_or b.marks e 0)) ]
-  unfolding warmEntry
-  warm-entry n none q = rw (q, warmEntry) refl
-  warm-entry n (some e) q = rw (q, warmEntry) (rw (cold-at n e (entry_in (up_to b a n) e q)) refl)
+  warm_entry_lem : (n : ℕ) (o : Option ℕ) → entry (up_to b a n) ≡ o → warm_entry (up_to b a n) ≡ elim o as (λ (x : Option ℕ). Bool) [ none ↦ false | some e ↦ not (is_cold (get_or b.marks e 0)) ]
+  unfolding warm_entry
+  warm_entry_lem n none q = rw (q, warm_entry) refl
+  warm_entry_lem n (some e) q = rw (q, warm_entry) (rw (cold_at_lem n e (entry_in (up_to b a n) e q)) refl)
 
-  pub splits-is : (n e : ℕ) → optional e ≡ entry (up_to (onlyBlocks b.listed b.marks [] []) noArms n) → splits (up_to b a n) ≡ splitsBy b.listed b.marks n e
-  unfolding splits splitsBy optional pick
-  splits-is n e q =
-      rw (any-is n) (rw (warm-entry n (optional e) (entry-same b (onlyBlocks b.listed b.marks [] []) a noArms refl refl n ∙ sym q)) (go (ltb e blocks)))
+  pub splits_is : (n e : ℕ) → optional e ≡ entry (up_to (only_blocks b.listed b.marks [] []) no_arms n) → splits (up_to b a n) ≡ splits_by b.listed b.marks n e
+  unfolding splits splits_by optional pick
+  splits_is n e q =
+      rw (any_is n) (rw (warm_entry_lem n (optional e) (entry_same b (only_blocks b.listed b.marks [] []) a no_arms refl refl n ∙ sym q)) (go (ltb e blocks)))
     where
       both : (c y : Bool) → not c && y ≡ cond c false y
       both true y = refl
       both false y = refl
 
-      go : (t : Bool) → elim (cond t (some e) none) as (λ (x : Option ℕ). Bool) [ none ↦ false | some e ↦ not (isCold (get_or b.marks e 0)) ] && anyCold b.listed b.marks n
-          ≡ cond t (cond (isCold (get_or b.marks e 0)) false (anyCold b.listed b.marks n)) false
-      go true = both (isCold (get_or b.marks e 0)) (anyCold b.listed b.marks n)
+      go : (t : Bool) → elim (cond t (some e) none) as (λ (x : Option ℕ). Bool) [ none ↦ false | some e ↦ not (is_cold (get_or b.marks e 0)) ] && any_cold b.listed b.marks n
+          ≡ cond t (cond (is_cold (get_or b.marks e 0)) false (any_cold b.listed b.marks n)) false
+      go true = both (is_cold (get_or b.marks e 0)) (any_cold b.listed b.marks n)
       go false = refl
 
 -- ---- the two sides
@@ -120,77 +120,77 @@ unfolding keep
 keep_same p q [] h = refl
 keep_same p q (x ∷ l) h = rw (h x (inl refl), keep_same p q l (λ y i. h y (inr i))) refl
 
-module _ (b : Blocks) (a : Arms) (n : ℕ) (o : List ℕ) (in_graph : (k : ℕ) → In k o → In k (numbersOf (up_to b a n))) where
-  pub warm-side : warmPart (up_to b a n) o ≡ onSide b.marks 0 o
-  unfolding warmPart onSide
-  warm-side =
-      keep_same (λ (k : ℕ). not (coldAt (up_to b a n) k)) (λ (k : ℕ). eqb (get_or b.marks k 0 / 2 % 2) 0) o
-      (λ k i. ap not (cold-at b a n k (in_graph k i)) ∙ warm-bit (get_or b.marks k 0))
+module _ (b : Blocks) (a : Arms) (n : ℕ) (o : List ℕ) (in_graph : (k : ℕ) → In k o → In k (numbers_of (up_to b a n))) where
+  pub warm_side : warm_part (up_to b a n) o ≡ on_side b.marks 0 o
+  unfolding warm_part on_side
+  warm_side =
+      keep_same (λ (k : ℕ). not (cold_at (up_to b a n) k)) (λ (k : ℕ). eqb (get_or b.marks k 0 / 2 % 2) 0) o
+      (λ k i. ap not (cold_at_lem b a n k (in_graph k i)) ∙ warm_bit (get_or b.marks k 0))
 
-  pub cold-side : coldPart (up_to b a n) o ≡ onSide b.marks 1 o
-  unfolding coldPart onSide
-  cold-side =
-      keep_same (coldAt (up_to b a n)) (λ (k : ℕ). eqb (get_or b.marks k 0 / 2 % 2) 1) o
-      (λ k i. cold-at b a n k (in_graph k i) ∙ sym (cold-bit (get_or b.marks k 0)))
+  pub cold_side : cold_part (up_to b a n) o ≡ on_side b.marks 1 o
+  unfolding cold_part on_side
+  cold_side =
+      keep_same (cold_at (up_to b a n)) (λ (k : ℕ). eqb (get_or b.marks k 0 / 2 % 2) 1) o
+      (λ k i. cold_at_lem b a n k (in_graph k i) ∙ sym (cold_bit (get_or b.marks k 0)))
 
 module _ (marks : List ℕ) where
-  pub sides-long : (o : List ℕ) → length (onSide marks 0 o) + length (onSide marks 1 o) ≡ length o
-  unfolding onSide keep
-  sides-long [] = refl
-  sides-long (x ∷ o) =
-      split-bool (isCold (get_or marks x 0))
-      (λ e. rw (ne_eqb (get_or marks x 0 / 2 % 2) 0 (λ q. omega (arith, is-cold (get_or marks x 0) e, q)), eq-eqb (get_or marks x 0 / 2 % 2) 1 (is-cold (get_or marks x 0) e)) (omega (arith, sides-long o)))
-      (λ e. rw (eq-eqb (get_or marks x 0 / 2 % 2) 0 (is-warm (get_or marks x 0) e), ne_eqb (get_or marks x 0 / 2 % 2) 1 (λ q. omega (arith, is-warm (get_or marks x 0) e, q))) (omega (arith, sides-long o)))
+  pub sides_long : (o : List ℕ) → length (on_side marks 0 o) + length (on_side marks 1 o) ≡ length o
+  unfolding on_side keep
+  sides_long [] = refl
+  sides_long (x ∷ o) =
+      split_bool (is_cold (get_or marks x 0))
+      (λ e. rw (ne_eqb (get_or marks x 0 / 2 % 2) 0 (λ q. omega (arith, is_cold_lem (get_or marks x 0) e, q)), eq-eqb (get_or marks x 0 / 2 % 2) 1 (is_cold_lem (get_or marks x 0) e)) (omega (arith, sides_long o)))
+      (λ e. rw (eq-eqb (get_or marks x 0 / 2 % 2) 0 (is_warm (get_or marks x 0) e), ne_eqb (get_or marks x 0 / 2 % 2) 1 (λ q. omega (arith, is_warm (get_or marks x 0) e, q))) (omega (arith, sides_long o)))
 
   module _ (side : ℕ) (block : List ℕ) where
-    side-append : (s t : List ℕ) → onSide marks side (s ++ t) ≡ onSide marks side s ++ onSide marks side t
-    unfolding onSide
-    side-append s t = keep_append (λ (k : ℕ). eqb (get_or marks k 0 / 2 % 2) side) s t
+    side_append : (s t : List ℕ) → on_side marks side (s ++ t) ≡ on_side marks side s ++ on_side marks side t
+    unfolding on_side
+    side_append s t = keep_append (λ (k : ℕ). eqb (get_or marks k 0 / 2 % 2) side) s t
 
-    one-yes : (x : ℕ) → get_or marks x 0 / 2 % 2 ≡ side → onSide marks side (x ∷ []) ≡ x ∷ []
-    unfolding onSide keep
-    one-yes x e = rw (eq-eqb (get_or marks x 0 / 2 % 2) side e) refl
+    one_yes : (x : ℕ) → get_or marks x 0 / 2 % 2 ≡ side → on_side marks side (x ∷ []) ≡ x ∷ []
+    unfolding on_side keep
+    one_yes x e = rw (eq-eqb (get_or marks x 0 / 2 % 2) side e) refl
 
-    one-no : (x : ℕ) → (get_or marks x 0 / 2 % 2 ≡ side → ⊥) → onSide marks side (x ∷ []) ≡ []
-    unfolding onSide keep
-    one-no x e = rw (ne_eqb (get_or marks x 0 / 2 % 2) side e) refl
+    one_no : (x : ℕ) → (get_or marks x 0 / 2 % 2 ≡ side → ⊥) → on_side marks side (x ∷ []) ≡ []
+    unfolding on_side keep
+    one_no x e = rw (ne_eqb (get_or marks x 0 / 2 % 2) side e) refl
 
-    side-more : (i : ℕ) → i < length block → onSide marks side (take (suc i) block) ≡ onSide marks side (take i block) ++ onSide marks side (get_or block i 0 ∷ [])
-    side-more i h = ap (onSide marks side) (take-suc block i 0 h) ∙ side-append (take i block) (get_or block i 0 ∷ [])
+    side_more : (i : ℕ) → i < length block → on_side marks side (take (suc i) block) ≡ on_side marks side (take i block) ++ on_side marks side (get_or block i 0 ∷ [])
+    side_more i h = ap (on_side marks side) (take-suc block i 0 h) ∙ side_append (take i block) (get_or block i 0 ∷ [])
 
-    side-yes : (i : ℕ) → i < length block → get_or marks (get_or block i 0) 0 / 2 % 2 ≡ side → onSide marks side (take (suc i) block) ≡ onSide marks side (take i block) ++ (get_or block i 0 ∷ [])
-    side-yes i h e = side-more i h ∙ ap (λ (l : List ℕ). onSide marks side (take i block) ++ l) (one-yes (get_or block i 0) e)
+    side_yes : (i : ℕ) → i < length block → get_or marks (get_or block i 0) 0 / 2 % 2 ≡ side → on_side marks side (take (suc i) block) ≡ on_side marks side (take i block) ++ (get_or block i 0 ∷ [])
+    side_yes i h e = side_more i h ∙ ap (λ (l : List ℕ). on_side marks side (take i block) ++ l) (one_yes (get_or block i 0) e)
 
-    side-no : (i : ℕ) → i < length block → (get_or marks (get_or block i 0) 0 / 2 % 2 ≡ side → ⊥) → onSide marks side (take (suc i) block) ≡ onSide marks side (take i block)
-    side-no i h e = side-more i h ∙ ap (λ (l : List ℕ). onSide marks side (take i block) ++ l) (one-no (get_or block i 0) e) ∙ append-nil (onSide marks side (take i block))
+    side_no : (i : ℕ) → i < length block → (get_or marks (get_or block i 0) 0 / 2 % 2 ≡ side → ⊥) → on_side marks side (take (suc i) block) ≡ on_side marks side (take i block)
+    side_no i h e = side_more i h ∙ ap (λ (l : List ℕ). on_side marks side (take i block) ++ l) (one_no (get_or block i 0) e) ∙ append-nil (on_side marks side (take i block))
 
-    side-le : (i n : ℕ) → i ≤ n → length (onSide marks side (take i block)) ≤ length (onSide marks side (take n block))
-    side-le i n h =
+    side_le : (i n : ℕ) → i ≤ n → length (on_side marks side (take i block)) ≤ length (on_side marks side (take n block))
+    side_le i n h =
         let q : i + (n - i) ≡ n = omega (arith, h) in
-        let e : onSide marks side (take n block) ≡ onSide marks side (take i block) ++ onSide marks side (take (n - i) (drop i block)) =
-        ap (λ (m : ℕ). onSide marks side (take m block)) (sym q) ∙ ap (onSide marks side) (take-add i (n - i) block) ∙ side-append (take i block) (take (n - i) (drop i block)) in
-        omega (arith, ap length e, length-append (onSide marks side (take i block)) (onSide marks side (take (n - i) (drop i block))))
+        let e : on_side marks side (take n block) ≡ on_side marks side (take i block) ++ on_side marks side (take (n - i) (drop i block)) =
+        ap (λ (m : ℕ). on_side marks side (take m block)) (sym q) ∙ ap (on_side marks side) (take-add i (n - i) block) ∙ side_append (take i block) (take (n - i) (drop i block)) in
+        omega (arith, ap length e, length-append (on_side marks side (take i block)) (on_side marks side (take (n - i) (drop i block))))
 
     module _ (a : ℕ) (before : List ℕ) where
-      pub gather-start : Gathered marks (take 0 block) side a before before a
-      unfolding onSide keep
-      gather-start = record { sized = refl; ends = omega arith; behind = sym (append-nil (take a before)) }
+      pub gather_start : Gathered marks (take 0 block) side a before before a
+      unfolding on_side keep
+      gather_start = record { sized = refl; ends = omega arith; behind = sym (append-nil (take a before)) }
 
       module _ (i to : ℕ) (after : List ℕ) (h : i < length block) (k : Gathered marks (take i block) side a before after to) where
-        pub gather-room : (n m : ℕ) → i < n → get_or marks (get_or block i 0) 0 / 2 % 2 ≡ side → a + length (onSide marks side (take n block)) ≤ m → to < m
-        gather-room n m l e r =
-            omega (arith, k.ends, ap length (side-yes i h e), length-append (onSide marks side (take i block)) (get_or block i 0 ∷ []), side-le (suc i) n l, r)
+        pub gather_room : (n m : ℕ) → i < n → get_or marks (get_or block i 0) 0 / 2 % 2 ≡ side → a + length (on_side marks side (take n block)) ≤ m → to < m
+        gather_room n m l e r =
+            omega (arith, k.ends, ap length (side_yes i h e), length-append (on_side marks side (take i block)) (get_or block i 0 ∷ []), side_le (suc i) n l, r)
 
-        pub gather-yes : get_or marks (get_or block i 0) 0 / 2 % 2 ≡ side → to < length after → Gathered marks (take (i + 1) block) side a before (set after to (get_or block i 0)) (to + 1)
-        gather-yes e r =
+        pub gather_yes : get_or marks (get_or block i 0) 0 / 2 % 2 ≡ side → to < length after → Gathered marks (take (i + 1) block) side a before (set after to (get_or block i 0)) (to + 1)
+        gather_yes e r =
             rw (add-one i)
             (record {
               sized = length-set after to (get_or block i 0) ∙ k.sized;
-              ends = rw (side-yes i h e) (rw (length-append (onSide marks side (take i block)) (get_or block i 0 ∷ [])) (omega (arith, k.ends)));
+              ends = rw (side_yes i h e) (rw (length-append (on_side marks side (take i block)) (get_or block i 0 ∷ [])) (omega (arith, k.ends)));
               behind =
-                  rw (add-one to, side-yes i h e)
-                  (take-suc-set after to (get_or block i 0) r ∙ ap (λ (l : List ℕ). l ++ (get_or block i 0 ∷ [])) k.behind ∙ append_assoc (take a before) (onSide marks side (take i block)) (get_or block i 0 ∷ []));
+                  rw (add-one to, side_yes i h e)
+                  (take-suc-set after to (get_or block i 0) r ∙ ap (λ (l : List ℕ). l ++ (get_or block i 0 ∷ [])) k.behind ∙ append_assoc (take a before) (on_side marks side (take i block)) (get_or block i 0 ∷ []));
             })
 
-        pub gather-no : (get_or marks (get_or block i 0) 0 / 2 % 2 ≡ side → ⊥) → Gathered marks (take (i + 1) block) side a before after to
-        gather-no e = rw (add-one i) (record { sized = k.sized; ends = rw (side-no i h e) k.ends; behind = rw (side-no i h e) k.behind })
+        pub gather_no : (get_or marks (get_or block i 0) 0 / 2 % 2 ≡ side → ⊥) → Gathered marks (take (i + 1) block) side a before after to
+        gather_no e = rw (add-one i) (record { sized = k.sized; ends = rw (side_no i h e) k.ends; behind = rw (side_no i h e) k.behind })

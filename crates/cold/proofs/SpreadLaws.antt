@@ -9,28 +9,28 @@ use mathlib.Core.Option.{Option, some}
 use lib.Dec.{T, eqb, ltb, T_not, not_T, eqb→eq, eqb-suc-zero}
 use lib.ListN.{length, get_or}
 use borrow.Author.Tests.{lt-ltb, eq-eqb, ne_eqb, eqb-true, eqb-false, ltb-true}
-use Rattle.limits.specs.Limits.{numbers, mostArms, blocks}
-use Rattle.lists.proofs.Choices.{split-bool}
+use Rattle.limits.specs.Limits.{numbers, most_arms, blocks}
+use Rattle.lists.proofs.Choices.{split_bool}
 use Rattle.rules.specs.Lists.{keep, any, mem}
 use Rattle.rules.specs.Graph as graph
-use Rattle.rules.specs.Graph.{isCold, entry, names}
-use Rattle.rules.specs.Spread.{waysIn, coldBlocks, warmEntry, spreads, coldSet, chilled, spread}
+use Rattle.rules.specs.Graph.{is_cold, entry, names}
+use Rattle.rules.specs.Spread.{ways_in, cold_blocks, warm_entry, spreads, cold_set, chilled, spread}
 use Rattle.rules.specs.Split.{splits}
-use Rattle.rules.proofs.Membership.{In, keep→, map-In, mem→, T→≡, map-append}
+use Rattle.rules.proofs.Membership.{In, keep→, map-In, mem→, T→≡, map_append}
 use Rattle.rules.proofs.Wholeness.{Whole}
-use Rattle.rules.proofs.SpreadLeast.{Shut, spread-closed, spread-least, spread_none}
-use Rattle.rules.proofs.SpreadMarks.{cold-stays}
+use Rattle.rules.proofs.SpreadLeast.{Shut, spread_closed, spread_least, spread_none}
+use Rattle.rules.proofs.SpreadMarks.{cold_stays}
 use Rattle.records.specs.declared.Graph.{Graph}
-use Rattle.records.specs.Tables.{block_at, up_to, tabled, optional, onlyBlocks, noArms, Stands}
-use Rattle.records.proofs.StandLaws.{optional-some, entry-same}
-use Rattle.cold.specs.Sides.{splitsBy}
-use Rattle.cold.specs.Ways.{links, at, armsTo, ins, coldIns, Linked}
+use Rattle.records.specs.Tables.{block_at, up_to, tabled, optional, only_blocks, no_arms, Stands}
+use Rattle.records.proofs.StandLaws.{optional_some, entry_same}
+use Rattle.cold.specs.Sides.{splits_by}
+use Rattle.cold.specs.Ways.{links, at, arms_to, ins, cold_ins, Linked}
 use Rattle.cold.specs.Sweeps.{joining, joins_at, cooled, Cools, Settled}
 use Rattle.cold.specs.Sweeps.Cools.{still, next}
-use Rattle.cold.specs.Lent.{Over, OverMarks, withMarks}
-use Rattle.cold.proofs.SideLaws.{splits-is}
-use Rattle.cold.proofs.SweepLaws.{joins-at, cold_next, cooled-here, cooled-else, cools-sized}
-use Rattle.cold.proofs.LinkLaws.{linksOf, ins-some, ins-pos, cold-all, all-cold, block-at, number_at, place_of, block-is, linked, way_in, in-way}
+use Rattle.cold.specs.Lent.{Over, OverMarks, with_marks}
+use Rattle.cold.proofs.SideLaws.{splits_is}
+use Rattle.cold.proofs.SweepLaws.{joins_at_lem, cold_next, cooled_here, cooled_else, cools_sized}
+use Rattle.cold.proofs.LinkLaws.{links_of, ins_some, ins_pos, cold_all, all_cold, block_at_lem, number_at, place_of, block_is, linked, way_in, in_way}
 
 clash : {X : Type 0} (b : Bool) → b ≡ true → b ≡ false → X
 clash b p q = absurd (let z : true ≡ false = sym p ∙ q in subst T z tt)
@@ -42,224 +42,224 @@ both false true f g = absurd (g tt)
 both false false f g = refl
 
 -- ---- "Only with a warm entry and some cold block"
-some-cold : (g : graph.Graph) → not (eqb (length (coldBlocks g)) 0) ≡ any (λ (b : graph.Block). isCold b.marks) g
-unfolding coldBlocks keep any
-some-cold [] = refl
-some-cold (x ∷ g) = go (some-cold g) (isCold x.marks)
+some_cold : (g : graph.Graph) → not (eqb (length (cold_blocks g)) 0) ≡ any (λ (b : graph.Block). is_cold b.marks) g
+unfolding cold_blocks keep any
+some_cold [] = refl
+some_cold (x ∷ g) = go (some_cold g) (is_cold x.marks)
   where
-    go : not (eqb (length (coldBlocks g)) 0) ≡ any (λ (b : graph.Block). isCold b.marks) g → (t : Bool)
-        → not (eqb (length (map (λ (b : graph.Block). b.number) (cond t (x ∷ keep (λ (b : graph.Block). isCold b.marks) g) (keep (λ (b : graph.Block). isCold b.marks) g)))) 0)
-        ≡ t || any (λ (b : graph.Block). isCold b.marks) g
-    go ih true = ap not (eqb-suc-zero (length (coldBlocks g)))
+    go : not (eqb (length (cold_blocks g)) 0) ≡ any (λ (b : graph.Block). is_cold b.marks) g → (t : Bool)
+        → not (eqb (length (map (λ (b : graph.Block). b.number) (cond t (x ∷ keep (λ (b : graph.Block). is_cold b.marks) g) (keep (λ (b : graph.Block). is_cold b.marks) g)))) 0)
+        ≡ t || any (λ (b : graph.Block). is_cold b.marks) g
+    go ih true = ap not (eqb-suc-zero (length (cold_blocks g)))
     go ih false = ih
 
-spreads-are : (g : graph.Graph) → spreads g ≡ splits g
+spreads_are : (g : graph.Graph) → spreads g ≡ splits g
 unfolding spreads splits
-spreads-are g = ap (λ (b : Bool). warmEntry g && b) (some-cold g)
+spreads_are g = ap (λ (b : Bool). warm_entry g && b) (some_cold g)
 
 -- ---- a mark stays, or bit 1 joins it
 abbrev pub Kept : ℕ → ℕ → Type 0
-Kept x y = (y ≡ x) ⊎ ((isCold x ≡ false) × (y ≡ x + 2))
+Kept x y = (y ≡ x) ⊎ ((is_cold x ≡ false) × (y ≡ x + 2))
 
-kept-cold : (x y : ℕ) → Kept x y → isCold x ≡ true → isCold y ≡ true
-kept-cold x y (inl e) c = rw e c
-kept-cold x y (inr q) c = clash (isCold x) c q.0
+kept_cold : (x y : ℕ) → Kept x y → is_cold x ≡ true → is_cold y ≡ true
+kept_cold x y (inl e) c = rw e c
+kept_cold x y (inr q) c = clash (is_cold x) c q.0
 
-kept_more : (x y : ℕ) → Kept x y → isCold y ≡ false → Kept x (y + 2)
+kept_more : (x y : ℕ) → Kept x y → is_cold y ≡ false → Kept x (y + 2)
 kept_more x y (inl e) c = inr (rw e at c, ap (λ (z : ℕ). z + 2) e)
-kept_more x y (inr q) c = clash (isCold y) (rw q.1 (cold_next x q.0)) c
+kept_more x y (inr q) c = clash (is_cold y) (rw q.1 (cold_next x q.0)) c
 
-chilled-is : (s : List ℕ) (x : graph.Block) (v : ℕ) → Kept x.marks v → isCold v ≡ mem x.number s
+chilled_is : (s : List ℕ) (x : graph.Block) (v : ℕ) → Kept x.marks v → is_cold v ≡ mem x.number s
     → ◌≡◌ {A = graph.Block} (record { number = x.number; marks = v; end = x.end; weight = x.weight; arms = x.arms }) (chilled s x)
 unfolding chilled
-chilled-is s x v (inl e) c = go (isCold x.marks) refl
+chilled_is s x v (inl e) c = go (is_cold x.marks) refl
   where
     here : graph.Block
     here = record { number = x.number; marks = v; end = x.end; weight = x.weight; arms = x.arms }
 
-    go : (t : Bool) → isCold x.marks ≡ t → here ≡ chilled s x
-    go true q = rw (sym c ∙ ap isCold e ∙ q, q, chilled) (rw e refl)
-    go false q = rw (sym c ∙ ap isCold e ∙ q, chilled) (rw e refl)
-chilled-is s x v (inr q) c = rw (sym c ∙ ap isCold q.1 ∙ cold_next x.marks q.0, q.0, chilled) (rw q.1 refl)
+    go : (t : Bool) → is_cold x.marks ≡ t → here ≡ chilled s x
+    go true q = rw (sym c ∙ ap is_cold e ∙ q, q, chilled) (rw e refl)
+    go false q = rw (sym c ∙ ap is_cold e ∙ q, chilled) (rw e refl)
+chilled_is s x v (inr q) c = rw (sym c ∙ ap is_cold q.1 ∙ cold_next x.marks q.0, q.0, chilled) (rw q.1 refl)
 
 -- ---- the tables with other marks
 module _ (t : Graph) (m : List ℕ) (kept : (k : ℕ) → Kept (get_or t.b.marks k 0) (get_or m k 0))
-    (set_is : (i : ℕ) → i < t.blocks → isCold (get_or m (at (linksOf t) i) 0) ≡ mem (at (linksOf t) i) (coldSet (tabled t))) where
-  marked-up : (p : ℕ) → p ≤ t.blocks → up_to (withMarks t m).b t.a p ≡ map (chilled (coldSet (tabled t))) (up_to t.b t.a p)
+    (set_is : (i : ℕ) → i < t.blocks → is_cold (get_or m (at (links_of t) i) 0) ≡ mem (at (links_of t) i) (cold_set (tabled t))) where
+  marked_up : (p : ℕ) → p ≤ t.blocks → up_to (with_marks t m).b t.a p ≡ map (chilled (cold_set (tabled t))) (up_to t.b t.a p)
   unfolding up_to block_at
-  marked-up zero l = refl
-  marked-up (suc p) l =
-      ap₂ (λ (g : graph.Graph) (x : graph.Block). g ++ (x ∷ [])) (marked-up p (omega (arith, l)))
-      (chilled-is (coldSet (tabled t)) (block_at t.b t.a (at (linksOf t) p)) (get_or m (at (linksOf t) p) 0) (kept (at (linksOf t) p)) (set_is p (omega (arith, l))))
-      ∙ sym (map-append (chilled (coldSet (tabled t))) (up_to t.b t.a p) (block_at t.b t.a (at (linksOf t) p) ∷ []))
+  marked_up zero l = refl
+  marked_up (suc p) l =
+      ap₂ (λ (g : graph.Graph) (x : graph.Block). g ++ (x ∷ [])) (marked_up p (omega (arith, l)))
+      (chilled_is (cold_set (tabled t)) (block_at t.b t.a (at (links_of t) p)) (get_or m (at (links_of t) p) 0) (kept (at (links_of t) p)) (set_is p (omega (arith, l))))
+      ∙ sym (map_append (chilled (cold_set (tabled t))) (up_to t.b t.a p) (block_at t.b t.a (at (links_of t) p) ∷ []))
 
-  pub marked-stands : Stands numbers mostArms t (tabled t) → length m ≡ blocks
-      → Stands numbers mostArms (withMarks t m) (spread (tabled t))
+  pub marked_stands : Stands numbers most_arms t (tabled t) → length m ≡ blocks
+      → Stands numbers most_arms (with_marks t m) (spread (tabled t))
   unfolding tabled spread
-  marked-stands s z =
+  marked_stands s z =
       record {
-        graph_is = marked-up t.blocks (omega arith);
+        graph_is = marked_up t.blocks (omega arith);
         few = s.few;
         below = s.below;
         back = s.back;
         fits = s.fits;
-        blocks-sized =
+        blocks_sized =
             record {
-              place = s.blocks-sized.place;
-              listed = s.blocks-sized.listed;
+              place = s.blocks_sized.place;
+              listed = s.blocks_sized.listed;
               marks = z;
-              ends = s.blocks-sized.ends;
-              weight = s.blocks-sized.weight;
+              ends = s.blocks_sized.ends;
+              weight = s.blocks_sized.weight;
             };
-        arms-sized = s.arms-sized;
+        arms_sized = s.arms_sized;
       }
 
 -- ---- the cold blocks are the least set
 module _ (t : Graph) where
   -- a cold block of the graph is cold by its mark
-  cold-mark : (k : ℕ) → T (mem k (coldBlocks (tabled t))) → isCold (get_or t.b.marks k 0) ≡ true
-  unfolding coldBlocks block_at
-  cold-mark k c =
-      let r = map-In (λ (b : graph.Block). b.number) (keep (λ (b : graph.Block). isCold b.marks) (tabled t)) k (mem→ k (coldBlocks (tabled t)) c) in
-      let q = keep→ (λ (b : graph.Block). isCold b.marks) (tabled t) r.0 r.1 in
-      let e : isCold r.0.marks ≡ isCold (get_or t.b.marks r.0.number 0) = ap (λ (b : graph.Block). isCold b.marks) (block-is t r.0 q.0) in
-      rw r.2 (sym e ∙ T→≡ (isCold r.0.marks) q.1)
+  cold_mark : (k : ℕ) → T (mem k (cold_blocks (tabled t))) → is_cold (get_or t.b.marks k 0) ≡ true
+  unfolding cold_blocks block_at
+  cold_mark k c =
+      let r = map-In (λ (b : graph.Block). b.number) (keep (λ (b : graph.Block). is_cold b.marks) (tabled t)) k (mem→ k (cold_blocks (tabled t)) c) in
+      let q = keep→ (λ (b : graph.Block). is_cold b.marks) (tabled t) r.0 r.1 in
+      let e : is_cold r.0.marks ≡ is_cold (get_or t.b.marks r.0.number 0) = ap (λ (b : graph.Block). is_cold b.marks) (block_is t r.0 q.0) in
+      rw r.2 (sym e ∙ T→≡ (is_cold r.0.marks) q.1)
 
-  mark-cold : (i : ℕ) → i < t.blocks → isCold (get_or t.b.marks (at (linksOf t) i) 0) ≡ true → T (mem (at (linksOf t) i) (coldSet (tabled t)))
+  mark_cold : (i : ℕ) → i < t.blocks → is_cold (get_or t.b.marks (at (links_of t) i) 0) ≡ true → T (mem (at (links_of t) i) (cold_set (tabled t)))
   unfolding block_at
-  mark-cold i l c = cold-stays (tabled t) (block_at t.b t.a (at (linksOf t) i)) (block-at t i l) (rw c tt)
+  mark_cold i l c = cold_stays (tabled t) (block_at t.b t.a (at (links_of t) i)) (block_at_lem t i l) (rw c tt)
 
   -- where nothing spreads the marks are right as they are
-  pub none-set : spreads (tabled t) ≡ false → (i : ℕ) → i < t.blocks → isCold (get_or t.b.marks (at (linksOf t) i) 0) ≡ mem (at (linksOf t) i) (coldSet (tabled t))
-  none-set n i l =
-      both (isCold (get_or t.b.marks (at (linksOf t) i) 0)) (mem (at (linksOf t) i) (coldSet (tabled t)))
-      (λ c. mark-cold i l (T→≡ (isCold (get_or t.b.marks (at (linksOf t) i) 0)) c))
-      (λ c. rw (cold-mark (at (linksOf t) i) (subst (λ (s : List ℕ). T (mem (at (linksOf t) i) s)) (spread_none (tabled t) (rw n tt)) c)) tt)
+  pub none_set : spreads (tabled t) ≡ false → (i : ℕ) → i < t.blocks → is_cold (get_or t.b.marks (at (links_of t) i) 0) ≡ mem (at (links_of t) i) (cold_set (tabled t))
+  none_set n i l =
+      both (is_cold (get_or t.b.marks (at (links_of t) i) 0)) (mem (at (links_of t) i) (cold_set (tabled t)))
+      (λ c. mark_cold i l (T→≡ (is_cold (get_or t.b.marks (at (links_of t) i) 0)) c))
+      (λ c. rw (cold_mark (at (links_of t) i) (subst (λ (s : List ℕ). T (mem (at (links_of t) i) s)) (spread_none (tabled t) (rw n tt)) c)) tt)
 
-  module _ (h : Linked (linksOf t)) (sized : length t.b.marks ≡ blocks) (e : ℕ) where
-    pub cools-kept : (j : ℕ) (m : List ℕ) → Cools (linksOf t) e t.b.marks j m → (k : ℕ) → Kept (get_or t.b.marks k 0) (get_or m k 0)
-    cools-kept zero m still k = inl refl
-    cools-kept (suc j) m (next {m = n} b i l q) k = go (cools-kept j n b k) (eqb k (at (linksOf t) i)) refl
+  module _ (h : Linked (links_of t)) (sized : length t.b.marks ≡ blocks) (e : ℕ) where
+    pub cools_kept : (j : ℕ) (m : List ℕ) → Cools (links_of t) e t.b.marks j m → (k : ℕ) → Kept (get_or t.b.marks k 0) (get_or m k 0)
+    cools_kept zero m still k = inl refl
+    cools_kept (suc j) m (next {m = n} b i l q) k = go (cools_kept j n b k) (eqb k (at (links_of t) i)) refl
       where
         z : length n ≡ blocks
-        z = cools-sized (linksOf t) h e t.b.marks n j sized b
+        z = cools_sized (links_of t) h e t.b.marks n j sized b
 
-        go : Kept (get_or t.b.marks k 0) (get_or n k 0) → (y : Bool) → eqb k (at (linksOf t) i) ≡ y → Kept (get_or t.b.marks k 0) (get_or (cooled n (at (linksOf t) i)) k 0)
+        go : Kept (get_or t.b.marks k 0) (get_or n k 0) → (y : Bool) → eqb k (at (links_of t) i) ≡ y → Kept (get_or t.b.marks k 0) (get_or (cooled n (at (links_of t) i)) k 0)
         go ih true u =
-            let v : k ≡ at (linksOf t) i = eqb-true k (at (linksOf t) i) u in
-            subst (Kept (get_or t.b.marks k 0)) (sym (ap (λ (x : ℕ). get_or (cooled n (at (linksOf t) i)) x 0) v ∙ cooled-here (linksOf t) h n z i l ∙ ap (λ (x : ℕ). get_or n x 0 + 2) (sym v)))
-            (kept_more (get_or t.b.marks k 0) (get_or n k 0) ih (ap (λ (x : ℕ). isCold (get_or n x 0)) v ∙ (joins-at (linksOf t) e n i q).warm))
-        go ih false u = subst (Kept (get_or t.b.marks k 0)) (sym (cooled-else (linksOf t) h n z i l k (eqb-false k (at (linksOf t) i) u))) ih
+            let v : k ≡ at (links_of t) i = eqb-true k (at (links_of t) i) u in
+            subst (Kept (get_or t.b.marks k 0)) (sym (ap (λ (x : ℕ). get_or (cooled n (at (links_of t) i)) x 0) v ∙ cooled_here (links_of t) h n z i l ∙ ap (λ (x : ℕ). get_or n x 0 + 2) (sym v)))
+            (kept_more (get_or t.b.marks k 0) (get_or n k 0) ih (ap (λ (x : ℕ). is_cold (get_or n x 0)) v ∙ (joins_at_lem (links_of t) e n i q).warm))
+        go ih false u = subst (Kept (get_or t.b.marks k 0)) (sym (cooled_else (links_of t) h n z i l k (eqb-false k (at (links_of t) i) u))) ih
 
-    module _ (spreading : T (spreads (tabled t))) (entry-is : entry (tabled t) ≡ some e) where
+    module _ (spreading : T (spreads (tabled t))) (entry_is : entry (tabled t) ≡ some e) where
       not_entry : (k : ℕ) → eqb k e ≡ false → T (not (names (entry (tabled t)) k))
       unfolding names
-      not_entry k d = rw entry-is (not_T (eqb e k) (λ u. eqb-false k e d (sym (eqb→eq e k u))))
+      not_entry k d = rw entry_is (not_T (eqb e k) (λ u. eqb-false k e d (sym (eqb→eq e k u))))
 
       -- a block that joins has all its ways in inside the set
-      joins_set : (m : List ℕ) → ((i : ℕ) → i < t.blocks → isCold (get_or m (at (linksOf t) i) 0) ≡ true → T (mem (at (linksOf t) i) (coldSet (tabled t))))
-          → (i : ℕ) → i < t.blocks → joins_at (linksOf t) e m i ≡ true → T (mem (at (linksOf t) i) (coldSet (tabled t)))
+      joins_set : (m : List ℕ) → ((i : ℕ) → i < t.blocks → is_cold (get_or m (at (links_of t) i) 0) ≡ true → T (mem (at (links_of t) i) (cold_set (tabled t))))
+          → (i : ℕ) → i < t.blocks → joins_at (links_of t) e m i ≡ true → T (mem (at (links_of t) i) (cold_set (tabled t)))
       joins_set m inside i l q =
-          let j = joins-at (linksOf t) e m i q in
-          let k = at (linksOf t) i in
-          let r = ins-some (linksOf t) t.blocks k j.some in
-          (spread-closed (tabled t) spreading).shut k (number_at t i l) (not_entry k j.other) (some-ways k (at (linksOf t) r.0) (way_in t k r.0 r.1 r.2))
-          (λ n u. let p = in-way t k n u in
-          subst (λ (x : ℕ). T (mem x (coldSet (tabled t)))) p.2
-          (inside p.0 p.1 (cold-all (linksOf t) h m k t.blocks j.all p.0 p.1 (subst (λ (x : ℕ). 0 < armsTo (linksOf t) k x) (sym p.2) p.3))))
+          let j = joins_at_lem (links_of t) e m i q in
+          let k = at (links_of t) i in
+          let r = ins_some (links_of t) t.blocks k j.some in
+          (spread_closed (tabled t) spreading).shut k (number_at t i l) (not_entry k j.other) (some_ways k (at (links_of t) r.0) (way_in t k r.0 r.1 r.2))
+          (λ n u. let p = in_way t k n u in
+          subst (λ (x : ℕ). T (mem x (cold_set (tabled t)))) p.2
+          (inside p.0 p.1 (cold_all (links_of t) h m k t.blocks j.all p.0 p.1 (subst (λ (x : ℕ). 0 < arms_to (links_of t) k x) (sym p.2) p.3))))
         where
-          some-ways : (k n : ℕ) → In n (waysIn (tabled t) k) → T (not (eqb (length (waysIn (tabled t) k)) 0))
-          some-ways k n u = long (waysIn (tabled t) k) u
+          some_ways : (k n : ℕ) → In n (ways_in (tabled t) k) → T (not (eqb (length (ways_in (tabled t) k)) 0))
+          some_ways k n u = long (ways_in (tabled t) k) u
             where
               long : (s : List ℕ) → In n s → T (not (eqb (length s) 0))
               long [] u = absurd u
               long (x ∷ s) u = rw (eqb-suc-zero (length s)) tt
 
-      cools-inside : (j : ℕ) (m : List ℕ) → Cools (linksOf t) e t.b.marks j m → (i : ℕ) → i < t.blocks → isCold (get_or m (at (linksOf t) i) 0) ≡ true → T (mem (at (linksOf t) i) (coldSet (tabled t)))
-      cools-inside zero m still i l c = mark-cold i l c
-      cools-inside (suc j) m (next {m = n} b p u q) i l c = go (cools-inside j n b) (eqb (at (linksOf t) i) (at (linksOf t) p)) refl
+      cools_inside : (j : ℕ) (m : List ℕ) → Cools (links_of t) e t.b.marks j m → (i : ℕ) → i < t.blocks → is_cold (get_or m (at (links_of t) i) 0) ≡ true → T (mem (at (links_of t) i) (cold_set (tabled t)))
+      cools_inside zero m still i l c = mark_cold i l c
+      cools_inside (suc j) m (next {m = n} b p u q) i l c = go (cools_inside j n b) (eqb (at (links_of t) i) (at (links_of t) p)) refl
         where
           z : length n ≡ blocks
-          z = cools-sized (linksOf t) h e t.b.marks n j sized b
+          z = cools_sized (links_of t) h e t.b.marks n j sized b
 
-          go : ((i : ℕ) → i < t.blocks → isCold (get_or n (at (linksOf t) i) 0) ≡ true → T (mem (at (linksOf t) i) (coldSet (tabled t)))) → (y : Bool) → eqb (at (linksOf t) i) (at (linksOf t) p) ≡ y
-              → T (mem (at (linksOf t) i) (coldSet (tabled t)))
-          go ih true d = subst (λ (x : ℕ). T (mem x (coldSet (tabled t)))) (sym (eqb-true (at (linksOf t) i) (at (linksOf t) p) d)) (joins_set n ih p u q)
-          go ih false d = ih i l (ap isCold (sym (cooled-else (linksOf t) h n z p u (at (linksOf t) i) (eqb-false (at (linksOf t) i) (at (linksOf t) p) d))) ∙ c)
+          go : ((i : ℕ) → i < t.blocks → is_cold (get_or n (at (links_of t) i) 0) ≡ true → T (mem (at (links_of t) i) (cold_set (tabled t)))) → (y : Bool) → eqb (at (links_of t) i) (at (links_of t) p) ≡ y
+              → T (mem (at (links_of t) i) (cold_set (tabled t)))
+          go ih true d = subst (λ (x : ℕ). T (mem x (cold_set (tabled t)))) (sym (eqb-true (at (links_of t) i) (at (links_of t) p) d)) (joins_set n ih p u q)
+          go ih false d = ih i l (ap is_cold (sym (cooled_else (links_of t) h n z p u (at (links_of t) i) (eqb-false (at (links_of t) i) (at (links_of t) p) d))) ∙ c)
 
-      module _ (m : List ℕ) (s : Settled (linksOf t) e t.b.marks m) where
+      module _ (m : List ℕ) (s : Settled (links_of t) e t.b.marks m) where
         -- a block that no longer joins, though all its ways in are cold, is cold
-        stays-cold : (i : ℕ) → i < t.blocks → T (not (names (entry (tabled t)) (at (linksOf t) i))) → T (not (eqb (length (waysIn (tabled t) (at (linksOf t) i))) 0))
-            → ((n : ℕ) → In n (waysIn (tabled t) (at (linksOf t) i)) → T (isCold (get_or m n 0))) → isCold (get_or m (at (linksOf t) i) 0) ≡ true
+        stays_cold : (i : ℕ) → i < t.blocks → T (not (names (entry (tabled t)) (at (links_of t) i))) → T (not (eqb (length (ways_in (tabled t) (at (links_of t) i))) 0))
+            → ((n : ℕ) → In n (ways_in (tabled t) (at (links_of t) i)) → T (is_cold (get_or m n 0))) → is_cold (get_or m (at (links_of t) i) 0) ≡ true
         unfolding names joins_at joining
-        stays-cold i l d o f =
-            let k = at (linksOf t) i in
-            split-bool (isCold (get_or m k 0)) (λ c. c)
+        stays_cold i l d o f =
+            let k = at (links_of t) i in
+            split_bool (is_cold (get_or m k 0)) (λ c. c)
             (λ c.
             let a = first_way k o in
-            let some = ins-pos (linksOf t) t.blocks k a.0 a.1 a.2 in
-            let alike = all-cold (linksOf t) h m k t.blocks (λ j v x. T→≡ (isCold (get_or m (at (linksOf t) j) 0)) (f (at (linksOf t) j) (way_in t k j v x))) in
-            let other : eqb k e ≡ false = ne_eqb k e (λ x. T_not (eqb e k) (subst (λ (y : Option ℕ). T (not (names y k))) entry-is d) (subst T (sym (eq-eqb e k (sym x))) tt)) in
-            clash (joins_at (linksOf t) e m i) (rw (other, c, lt-ltb 0 (ins (linksOf t) t.blocks k) some) (eq-eqb (ins (linksOf t) t.blocks k) (coldIns (linksOf t) m t.blocks k) alike)) (s.quiet i l))
+            let some = ins_pos (links_of t) t.blocks k a.0 a.1 a.2 in
+            let alike = all_cold (links_of t) h m k t.blocks (λ j v x. T→≡ (is_cold (get_or m (at (links_of t) j) 0)) (f (at (links_of t) j) (way_in t k j v x))) in
+            let other : eqb k e ≡ false = ne_eqb k e (λ x. T_not (eqb e k) (subst (λ (y : Option ℕ). T (not (names y k))) entry_is d) (subst T (sym (eq-eqb e k (sym x))) tt)) in
+            clash (joins_at (links_of t) e m i) (rw (other, c, lt-ltb 0 (ins (links_of t) t.blocks k) some) (eq-eqb (ins (links_of t) t.blocks k) (cold_ins (links_of t) m t.blocks k) alike)) (s.quiet i l))
           where
-            first_way : (k : ℕ) → T (not (eqb (length (waysIn (tabled t) k)) 0)) → (j : ℕ) × (j < t.blocks) × (0 < armsTo (linksOf t) k (at (linksOf t) j))
-            first_way k o = go (waysIn (tabled t) k) refl o
+            first_way : (k : ℕ) → T (not (eqb (length (ways_in (tabled t) k)) 0)) → (j : ℕ) × (j < t.blocks) × (0 < arms_to (links_of t) k (at (links_of t) j))
+            first_way k o = go (ways_in (tabled t) k) refl o
               where
-                go : (x : List ℕ) → waysIn (tabled t) k ≡ x → T (not (eqb (length x) 0)) → (j : ℕ) × (j < t.blocks) × (0 < armsTo (linksOf t) k (at (linksOf t) j))
+                go : (x : List ℕ) → ways_in (tabled t) k ≡ x → T (not (eqb (length x) 0)) → (j : ℕ) × (j < t.blocks) × (0 < arms_to (links_of t) k (at (links_of t) j))
                 go [] q o = absurd o
                 go (n ∷ x) q o =
-                    let r = in-way t k n (subst (In n) (sym q) (inl refl)) in
-                    (r.0, r.1, subst (λ (y : ℕ). 0 < armsTo (linksOf t) k y) (sym r.2) r.3)
+                    let r = in_way t k n (subst (In n) (sym q) (inl refl)) in
+                    (r.0, r.1, subst (λ (y : ℕ). 0 < arms_to (links_of t) k y) (sym r.2) r.3)
 
-        settled-shut : Shut (tabled t) (entry (tabled t)) (coldBlocks (tabled t)) (λ (b : ℕ). T (isCold (get_or m b 0)))
-        settled-shut =
+        settled_shut : Shut (tabled t) (entry (tabled t)) (cold_blocks (tabled t)) (λ (b : ℕ). T (is_cold (get_or m b 0)))
+        settled_shut =
             record {
-              starts = λ b c. subst T (sym (kept-cold (get_or t.b.marks b 0) (get_or m b 0) (cools-kept s.turns m s.cools b) (cold-mark b c))) tt;
+              starts = λ b c. subst T (sym (kept_cold (get_or t.b.marks b 0) (get_or m b 0) (cools_kept s.turns m s.cools b) (cold_mark b c))) tt;
               shut = λ b u d o f. let r = place_of t b u in
-                  subst (λ (x : ℕ). T (isCold (get_or m x 0))) r.2
-                  (subst T (sym (stays-cold r.0 r.1 (subst (λ (x : ℕ). T (not (names (entry (tabled t)) x))) (sym r.2) d) (subst (λ (x : ℕ). T (not (eqb (length (waysIn (tabled t) x)) 0))) (sym r.2) o)
-                  (λ n v. f n (subst (λ (x : ℕ). In n (waysIn (tabled t) x)) r.2 v)))) tt);
+                  subst (λ (x : ℕ). T (is_cold (get_or m x 0))) r.2
+                  (subst T (sym (stays_cold r.0 r.1 (subst (λ (x : ℕ). T (not (names (entry (tabled t)) x))) (sym r.2) d) (subst (λ (x : ℕ). T (not (eqb (length (ways_in (tabled t) x)) 0))) (sym r.2) o)
+                  (λ n v. f n (subst (λ (x : ℕ). In n (ways_in (tabled t) x)) r.2 v)))) tt);
             }
 
-        pub settled-set : (i : ℕ) → i < t.blocks → isCold (get_or m (at (linksOf t) i) 0) ≡ mem (at (linksOf t) i) (coldSet (tabled t))
-        settled-set i l =
-            both (isCold (get_or m (at (linksOf t) i) 0)) (mem (at (linksOf t) i) (coldSet (tabled t)))
-            (λ c. cools-inside s.turns m s.cools i l (T→≡ (isCold (get_or m (at (linksOf t) i) 0)) c))
-            (λ c. spread-least (tabled t) spreading (λ (b : ℕ). T (isCold (get_or m b 0))) settled-shut (at (linksOf t) i) c)
+        pub settled_set : (i : ℕ) → i < t.blocks → is_cold (get_or m (at (links_of t) i) 0) ≡ mem (at (links_of t) i) (cold_set (tabled t))
+        settled_set i l =
+            both (is_cold (get_or m (at (links_of t) i) 0)) (mem (at (links_of t) i) (cold_set (tabled t)))
+            (λ c. cools_inside s.turns m s.cools i l (T→≡ (is_cold (get_or m (at (links_of t) i) 0)) c))
+            (λ c. spread_least (tabled t) spreading (λ (b : ℕ). T (is_cold (get_or m b 0))) settled_shut (at (links_of t) i) c)
 
 -- ---- the pass
 module _ (t : Graph) (listed marks first count to : List ℕ) (n : ℕ) (k : Over t listed marks first count to n) where
   -- the tables that `partition` asks for are among them
-  pub over-marks : OverMarks t listed marks n
-  over-marks = record { listed-is = k.listed-is; marks-is = k.marks-is; blocks_is = k.blocks_is }
+  pub over_marks : OverMarks t listed marks n
+  over_marks = record { listed_is = k.listed_is; marks_is = k.marks_is; blocks_is = k.blocks_is }
 
-  module _ (s : Stands numbers mostArms t (tabled t)) where
-    pub over-linked : Whole (tabled t) → Linked (links listed first count to n)
-    over-linked whole = subst Linked (rw (k.listed-is, k.first-is, k.count-is, k.to_is, k.blocks_is) refl) (linked t s whole)
+  module _ (s : Stands numbers most_arms t (tabled t)) where
+    pub over_linked : Whole (tabled t) → Linked (links listed first count to n)
+    over_linked whole = subst Linked (rw (k.listed_is, k.first_is, k.count_is, k.to_is, k.blocks_is) refl) (linked t s whole)
 
-    module _ (e : ℕ) (found : optional e ≡ entry (up_to (onlyBlocks listed marks [] []) noArms n)) where
-      found-is : optional e ≡ entry (up_to (onlyBlocks t.b.listed t.b.marks [] []) noArms t.blocks)
-      found-is = rw (k.listed-is, k.marks-is, k.blocks_is) found
+    module _ (e : ℕ) (found : optional e ≡ entry (up_to (only_blocks listed marks [] []) no_arms n)) where
+      found_is : optional e ≡ entry (up_to (only_blocks t.b.listed t.b.marks [] []) no_arms t.blocks)
+      found_is = rw (k.listed_is, k.marks_is, k.blocks_is) found
 
-      spreads-by : (y : Bool) → splitsBy listed marks n e ≡ y → spreads (tabled t) ≡ y
+      spreads_by : (y : Bool) → splits_by listed marks n e ≡ y → spreads (tabled t) ≡ y
       unfolding tabled
-      spreads-by y h = spreads-are (tabled t) ∙ splits-is t.b t.a t.blocks e found-is ∙ rw (k.listed-is, k.marks-is, k.blocks_is) h
+      spreads_by y h = spreads_are (tabled t) ∙ splits_is t.b t.a t.blocks e found_is ∙ rw (k.listed_is, k.marks_is, k.blocks_is) h
 
-      entry-by : splitsBy listed marks n e ≡ true → entry (tabled t) ≡ some e
-      unfolding tabled splitsBy
-      entry-by h =
-          entry-same t.b (onlyBlocks t.b.listed t.b.marks [] []) t.a noArms refl refl t.blocks ∙ sym found-is
-          ∙ optional-some e (split-bool (ltb e blocks) (λ q. ltb-true e blocks q) (λ q. absurd (let z : false ≡ true = rw q at h in subst T (sym z) tt)))
+      entry_by : splits_by listed marks n e ≡ true → entry (tabled t) ≡ some e
+      unfolding tabled splits_by
+      entry_by h =
+          entry_same t.b (only_blocks t.b.listed t.b.marks [] []) t.a no_arms refl refl t.blocks ∙ sym found_is
+          ∙ optional_some e (split_bool (ltb e blocks) (λ q. ltb-true e blocks q) (λ q. absurd (let z : false ≡ true = rw q at h in subst T (sym z) tt)))
 
-      pub spread-settled : Whole (tabled t) → splitsBy listed marks n e ≡ true → (m : List ℕ) → Settled (links listed first count to n) e marks m
-          → Stands numbers mostArms (withMarks t m) (spread (tabled t))
-      spread-settled whole h m q =
+      pub spread_settled : Whole (tabled t) → splits_by listed marks n e ≡ true → (m : List ℕ) → Settled (links listed first count to n) e marks m
+          → Stands numbers most_arms (with_marks t m) (spread (tabled t))
+      spread_settled whole h m q =
           let l = linked t s whole in
-          let o : Settled (linksOf t) e t.b.marks m = rw (k.listed-is, k.marks-is, k.first-is, k.count-is, k.to_is, k.blocks_is) q in
-          marked-stands t m (cools-kept t l s.blocks-sized.marks e o.turns m o.cools)
-          (settled-set t l s.blocks-sized.marks e (rw (spreads-by true h) tt) (entry-by h) m o) s o.sized
+          let o : Settled (links_of t) e t.b.marks m = rw (k.listed_is, k.marks_is, k.first_is, k.count_is, k.to_is, k.blocks_is) q in
+          marked_stands t m (cools_kept t l s.blocks_sized.marks e o.turns m o.cools)
+          (settled_set t l s.blocks_sized.marks e (rw (spreads_by true h) tt) (entry_by h) m o) s o.sized
 
-      pub spread-still : splitsBy listed marks n e ≡ false → Stands numbers mostArms (withMarks t marks) (spread (tabled t))
-      spread-still h =
-          rw (← k.marks-is)
-          (marked-stands t t.b.marks (λ i. inl refl) (none-set t (spreads-by false h)) s s.blocks-sized.marks)
+      pub spread_still : splits_by listed marks n e ≡ false → Stands numbers most_arms (with_marks t marks) (spread (tabled t))
+      spread_still h =
+          rw (← k.marks_is)
+          (marked_stands t t.b.marks (λ i. inl refl) (none_set t (spreads_by false h)) s s.blocks_sized.marks)

@@ -1,13 +1,13 @@
 -- The arms into each block, counted afresh over the tables: all of them, and those from cold blocks.
 use Rattle.std.specs.Prelude.{ℕ, zero, suc, ◌+◌, ◌≤◌, ◌<◌, ◌≡◌, cond, List, [], ◌∷◌, ◌++◌, length, get_or}
-use Rattle.limits.specs.Limits.{numbers, mostArms, blocks}
-use Rattle.rules.specs.Graph.{isCold}
+use Rattle.limits.specs.Limits.{numbers, most_arms, blocks}
+use Rattle.rules.specs.Graph.{is_cold}
 use Rattle.rules.proofs.Membership.{In}
 use Rattle.rules.proofs.Counting as counting
 
 -- a count fits an entry
-abbrev pub mostCount : ℕ
-mostCount = 65535
+abbrev pub most_count : ℕ
+most_count = 65535
 
 -- the tables that say where arms go, and how many blocks are listed
 pub record Links : Type 0 where
@@ -35,26 +35,26 @@ abbrev pub at : Links → ℕ → ℕ
 at w i = get_or w.listed i 0
 
 -- how many arms of block b go to block k
-unfoldable pub armsTo : Links → ℕ → ℕ → ℕ
+unfoldable pub arms_to : Links → ℕ → ℕ → ℕ
 unfolding outs counting.count
-armsTo w k b = counting.count k (outs w b)
+arms_to w k b = counting.count k (outs w b)
 
 -- how many arms of the first i listed blocks go to block k
 unfoldable pub ins : Links → ℕ → ℕ → ℕ
-unfolding armsTo
+unfolding arms_to
 ins w zero k = 0
-ins w (suc i) k = ins w i k + armsTo w k (at w i)
+ins w (suc i) k = ins w i k + arms_to w k (at w i)
 
 -- a sum over the cold ones of the first i listed blocks
-unfoldable pub coldSum : Links → List ℕ → (ℕ → ℕ) → ℕ → ℕ
-unfolding isCold
-coldSum w marks f zero = 0
-coldSum w marks f (suc i) = coldSum w marks f i + cond (isCold (get_or marks (at w i) 0)) (f (at w i)) 0
+unfoldable pub cold_sum : Links → List ℕ → (ℕ → ℕ) → ℕ → ℕ
+unfolding is_cold
+cold_sum w marks f zero = 0
+cold_sum w marks f (suc i) = cold_sum w marks f i + cond (is_cold (get_or marks (at w i) 0)) (f (at w i)) 0
 
 -- how many arms of these go to block k
-unfoldable pub coldIns : Links → List ℕ → ℕ → ℕ → ℕ
-unfolding coldSum armsTo
-coldIns w marks i k = coldSum w marks (armsTo w k) i
+unfoldable pub cold_ins : Links → List ℕ → ℕ → ℕ → ℕ
+unfolding cold_sum arms_to
+cold_ins w marks i k = cold_sum w marks (arms_to w k) i
 
 -- the tables are in order: their lengths, no number listed twice, arms and what they go to within
 pub record Linked (w : Links) : Type 0 where
@@ -64,7 +64,7 @@ pub record Linked (w : Links) : Type 0 where
   pub few : w.blocks ≤ numbers
   pub below : (i : ℕ) → i < w.blocks → at w i < blocks
   pub once : (i j : ℕ) → i < w.blocks → j < w.blocks → at w i ≡ at w j → i ≡ j
-  pub fits : (b : ℕ) → get_or w.first b 0 + get_or w.count b 0 ≤ mostArms
+  pub fits : (b : ℕ) → get_or w.first b 0 + get_or w.count b 0 ≤ most_arms
   pub goes : (i : ℕ) → i < w.blocks → (k : ℕ) → In k (outs w (at w i)) → k < blocks
 
 -- a table with one more for each arm that goes to a block

@@ -1,12 +1,14 @@
 // Cold blocks: what only they lead to is cold too, and they go last. The ways into a block are two counts by block
 // number, made once: its arms in, and those of them from cold blocks. A block joins when both are the same, and its
 // own arms then count as cold: they are walked that once, and never to ask whether it joins.
+#![tactic(auto)]
+
 pub mod ways;
 
 ghost use Rattle.std.specs.Prelude.{◌≡◌, false, ◌+◌, ◌≤◌, ◌/◌, ◌%◌, length, take};
 ghost use Rattle.limits.specs.Limits.{blocks};
-ghost use Rattle.rules.specs.Graph.{isCold};
-ghost use Rattle.cold.specs.Sides.{anyCold, splitsBy, onSide, Gathered};
+ghost use Rattle.rules.specs.Graph.{is_cold};
+ghost use Rattle.cold.specs.Sides.{any_cold, splits_by, on_side, Gathered};
 ghost use Rattle.cold.specs.Ways.{links, Linked};
 ghost use Rattle.cold.specs.Sweeps.{joining, Chills, Chilled, Sweeps, Swept, Settled};
 ghost use Rattle.cold.specs.Lent.{Spreads, SpreadTo, Divides, PartedBy};
@@ -29,14 +31,14 @@ fn side_of(marks: u8) -> u8
 }
 
 pub fn is_cold(marks: u8) -> bool
-    ensures { result ≡ isCold marks }
+    ensures { result ≡ is_cold marks }
 {
     side_of(marks) == 1
 }
 
 // The marks of a warm block, with mark 1.
 fn cold_marks(marks: u8) -> u8
-    requires { isCold marks ≡ false }
+    requires { is_cold marks ≡ false }
     ensures { result ≡ marks + 2 }
 {
     marks + 2
@@ -45,7 +47,7 @@ fn cold_marks(marks: u8) -> u8
 // Whether one of the first n listed blocks is cold.
 fn any_cold<'a>(listed: &'a [u16; BLOCKS], marks: &'a [u8; BLOCKS], n: usize) -> bool
     requires { (n ≤ blocks) × (length listed.now ≡ blocks) × (length marks.now ≡ blocks) }
-    ensures { result ≡ anyCold listed.now marks.now n }
+    ensures { result ≡ any_cold listed.now marks.now n }
 {
     let mut i: usize = 0;
     while i < n {
@@ -61,7 +63,7 @@ fn any_cold<'a>(listed: &'a [u16; BLOCKS], marks: &'a [u8; BLOCKS], n: usize) ->
 // Whether there is a warm entry and a cold block; an entry of BLOCKS is none.
 fn splits<'a>(listed: &'a [u16; BLOCKS], marks: &'a [u8; BLOCKS], n: usize, entry: usize) -> bool
     requires { (n ≤ blocks) × (length listed.now ≡ blocks) × (length marks.now ≡ blocks) }
-    ensures { result ≡ splitsBy listed.now marks.now n entry }
+    ensures { result ≡ splits_by listed.now marks.now n entry }
 {
     if BLOCKS <= entry {
         return false;
@@ -82,7 +84,7 @@ fn gather<'a>(
     out: &mut [u16; BLOCKS],
 ) -> usize
     requires len_le_blocks { (len ≤ blocks) × (length block.now ≡ blocks) × (length marks.now ≡ blocks) × (length out.old ≡ blocks) }
-    requires block_bound { at + length (onSide marks.now side (take len block.now)) ≤ blocks }
+    requires block_bound { at + length (on_side marks.now side (take len block.now)) ≤ blocks }
     ensures { Gathered marks.now (take len block.now) side at out.old out.new result }
 {
     let mut to = at;

@@ -1,10 +1,10 @@
 // Arms into each block, counted by block number: all of them, and those from cold blocks.
 ghost use Rattle.std.specs.Prelude.{◌≡◌, cond, ℕ, ◌+◌, ◌≤◌, ◌<◌, length, get_or};
 ghost use Rattle.limits.specs.Limits.{blocks, arms};
-ghost use Rattle.rules.specs.Graph.{isCold};
+ghost use Rattle.rules.specs.Graph.{is_cold};
 ghost use Rattle.rules.proofs.Membership.{In};
 ghost use Rattle.rules.proofs.Counting as counting;
-ghost use Rattle.cold.specs.Ways.{mostCount, links, toward, ins, coldIns, Linked, Added, Counts};
+ghost use Rattle.cold.specs.Ways.{most_count, links, toward, ins, cold_ins, Linked, Added, Counts};
 
 use crate::is_cold;
 use limits::{ARMS, BLOCKS};
@@ -12,7 +12,7 @@ use limits::{ARMS, BLOCKS};
 // One more for each of `count` arms, from arm `first` on, at the block that it goes to.
 pub fn add_arms(to: &[u16; ARMS], first: usize, count: usize, table: &mut [u16; BLOCKS])
     requires count_bound { (first + count ≤ arms) × (length table.old ≡ blocks) × ((k : ℕ) → In k (toward to.now first count) → k < blocks) }
-    requires by_index { (k : ℕ) → get_or table.old k 0 + counting.count k (toward to.now first count) ≤ mostCount }
+    requires by_index { (k : ℕ) → get_or table.old k 0 + counting.count k (toward to.now first count) ≤ most_count }
     ensures { Added (toward to.now first count) table.old table.new }
 {
     let mut j: usize = 0;
@@ -51,7 +51,7 @@ pub fn count_ins<'a>(
 
 // How many of a block's arms leave a cold block: all or none.
 fn cold_arms(marks: u8, count: usize) -> usize
-    ensures { result ≡ cond (isCold marks) count 0 }
+    ensures { result ≡ cond (is_cold marks) count 0 }
 {
     if is_cold(marks) { count } else { 0 }
 }
@@ -68,7 +68,7 @@ pub fn count_cold<'a>(
 )
     requires linked { Linked (links listed.now first.now count.now to.now n) × (length marks.now ≡ blocks) }
     requires counts { Counts table.old (λ (k : ℕ). 0) }
-    ensures { Counts table.new (coldIns (links listed.now first.now count.now to.now n) marks.now n) }
+    ensures { Counts table.new (cold_ins (links listed.now first.now count.now to.now n) marks.now n) }
 {
     let mut i: usize = 0;
     while i < n {

@@ -1,11 +1,13 @@
 // The traces put one after the other. From each unused trace in turn, the next one is that which an arm of the last block
 // enters at its first block, as long as there is one that is unused; traces stay whole.
+#![tactic(auto)]
+
 ghost use Rattle.std.specs.Prelude.{◌≡◌, ◌++◌, ℕ, ◌+◌, ◌-◌, ◌≤◌, ◌<◌, length, take};
 ghost use Rattle.std.proofs.Math.Seq.{slice};
 ghost use Rattle.limits.specs.Limits.{blocks, arms};
 ghost use Rattle.rules.specs.Join.{looser};
-ghost use Rattle.connect.specs.Joined.{beginOf, Lent, Joinable, JoinedBy};
-ghost use Rattle.connect.specs.Links.{link_in, link_of, tighter, leadsBy, Found, Unused, BestBy};
+ghost use Rattle.connect.specs.Joined.{begin_of, Lent, Joinable, JoinedBy};
+ghost use Rattle.connect.specs.Links.{link_in, link_of, tighter, leads_by, Found, Unused, BestBy};
 ghost use Rattle.connect.specs.Following.{Heads, Begins, Followed};
 
 use limits::{ARMS, BLOCKS};
@@ -29,7 +31,7 @@ pub enum Next {
 // Where trace k begins, which is where the one before it ends.
 pub fn begin(ends: &[u16; BLOCKS], k: usize) -> usize
     requires { (length ends.now ≡ blocks) × (k ≤ blocks) }
-    ensures { result ≡ beginOf ends.now k }
+    ensures { result ≡ begin_of ends.now k }
 {
     if k == 0 {
         return 0;
@@ -97,7 +99,7 @@ fn leads<'a>(
 ) -> Next
     requires marks_len { (length marks.now ≡ blocks) × (length to.now ≡ arms) × (length heft.now ≡ arms) × (q < arms) }
     requires found { Found ends.now head.now used.now }
-    ensures { link_of result ≡ leadsBy marks.now to.now heft.now ends.now head.now used.now cold q }
+    ensures { link_of result ≡ leads_by marks.now to.now heft.now ends.now head.now used.now cold q }
 {
     let n = to[q];
     let h = lists::entry_of(head, n);

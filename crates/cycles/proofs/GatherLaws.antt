@@ -12,13 +12,13 @@ use lib.Seq.{get_or-set_same, get_or-set_other}
 use borrow.Author.Tests.{eqb-true, eqb-false}
 use Rattle.limits.specs.Limits.{blocks, arms}
 use Rattle.lists.specs.Marked.{marked}
-use Rattle.lists.proofs.Choices.{split-eq}
-use Rattle.lists.proofs.Tables.{marked-most, marked_more}
+use Rattle.lists.proofs.Choices.{split_eq}
+use Rattle.lists.proofs.Tables.{marked_most, marked_more}
 use Rattle.rules.proofs.Membership.{In}
 use Rattle.rules.proofs.StackWalk.{Frame}
 use Rattle.stack.specs.Frames.{frame}
 use Rattle.cycles.specs.Inward.{Linked, Lists}
-use Rattle.cycles.specs.Gathering.{blocksOn, Listing, Gathered, Back, here, over, Collected, Sorted, old, new}
+use Rattle.cycles.specs.Gathering.{blocks_on, Listing, Gathered, Back, here, over, Collected, Sorted, old, new}
 
 -- the same number, or another
 same_or : {X : Type 0} (a b : ℕ) → (a ≡ b → X) → ((a ≡ b → ⊥) → X) → X
@@ -28,12 +28,12 @@ same_or {X} a b f g = go (eqb a b) refl
     go true e = f (eqb-true a b e)
     go false e = g (eqb-false a b e)
 
-pub on-push : (b a : ℕ) (st : List Frame) → blocksOn (frame b a ∷ st) ≡ b ∷ blocksOn st
-unfolding blocksOn
-on-push b a st = refl
+pub on_push : (b a : ℕ) (st : List Frame) → blocks_on (frame b a ∷ st) ≡ b ∷ blocks_on st
+unfolding blocks_on
+on_push b a st = refl
 
-pub on_none : blocksOn [] ≡ []
-unfolding blocksOn
+pub on_none : blocks_on [] ≡ []
+unfolding blocks_on
 on_none = refl
 
 -- ---- a list, block by block
@@ -75,22 +75,22 @@ pub record Top (next from : List ℕ) (k : ℕ) (l : List ℕ) : Type 0 where
   pub falls : get_or next (k - 1) 0 < k
   pub linked : Linked next from arms (get_or next (k - 1) 0) rest
 
-pub linked-first : (next from : List ℕ) (k : ℕ) (l : List ℕ) → 0 < k → Linked next from arms k l → Top next from k l
-linked-first next from k [] h n = absurd (omega (arith, h, n))
-linked-first next from k (x ∷ l) h n = record { rest = l; is = ap (λ (z : ℕ). z ∷ l) (sym n.2); within = n.1; falls = n.3; linked = n.4 }
+pub linked_first : (next from : List ℕ) (k : ℕ) (l : List ℕ) → 0 < k → Linked next from arms k l → Top next from k l
+linked_first next from k [] h n = absurd (omega (arith, h, n))
+linked_first next from k (x ∷ l) h n = record { rest = l; is = ap (λ (z : ℕ). z ∷ l) (sym n.2); within = n.1; falls = n.3; linked = n.4 }
 
 module _ {next from w : List ℕ} {c : ℕ} {p st q st' : List ℕ} {k : ℕ} (g : Going next from w c p st q st' k) (pos : 0 < k) where
   abbrev m : ℕ
   m = get_or from (k - 1) 0
 
   t : Top next from k g.rest
-  t = linked-first next from k g.rest pos g.linked
+  t = linked_first next from k g.rest pos g.linked
 
-  pub first-in : In m w
-  first-in = g.some m (subst (λ (l : List ℕ). In m l) (sym t.is) (inl refl))
+  pub first_in : In m w
+  first_in = g.some m (subst (λ (l : List ℕ). In m l) (sym t.is) (inl refl))
 
-  pub turn-old : (k' : ℕ) → k' ≡ get_or next (k - 1) 0 → 0 < get_or q m 0 → Going next from w c p st q st' k'
-  turn-old k' e h = record {
+  pub turn_old : (k' : ℕ) → k' ≡ get_or next (k - 1) 0 → 0 < get_or q m 0 → Going next from w c p st q st' k'
+  turn_old k' e h = record {
     rest = t.rest;
     linked = subst (λ (z : ℕ). Linked next from arms z t.rest) (sym e) t.linked;
     some = λ x i. g.some x (subst (λ (l : List ℕ). In x l) (sym t.is) (inr i));
@@ -101,17 +101,17 @@ module _ {next from w : List ℕ} {c : ℕ} {p st q st' : List ℕ} {k : ℕ} (g
   }
 
   -- a block in no piece joins this one
-  pub turn-new : (k' b : ℕ) → k' ≡ get_or next (k - 1) 0 → b ≡ m → get_or q m 0 ≡ 0 → m < length q → 0 < c → Going next from w c p st (set q b c) (m ∷ st') k'
-  turn-new k' b e eb z h pos-c = record {
+  pub turn_new : (k' b : ℕ) → k' ≡ get_or next (k - 1) 0 → b ≡ m → get_or q m 0 ≡ 0 → m < length q → 0 < c → Going next from w c p st (set q b c) (m ∷ st') k'
+  turn_new k' b e eb z h pos-c = record {
     rest = t.rest;
     linked = subst (λ (y : ℕ). Linked next from arms y t.rest) (sym e) t.linked;
     some = λ x i. g.some x (subst (λ (l : List ℕ). In x l) (sym t.is) (inr i));
-    came = λ x. same_or x m (λ s. inr (subst New (sym s) (was, at, first-in, inl refl)))
+    came = λ x. same_or x m (λ s. inr (subst New (sym s) (was, at, first_in, inl refl)))
         (λ d. ⊎_elim (λ s. inl (other x d ∙ s)) (λ s. inr (s.0, other x d ∙ s.1, s.2, inr s.3)) (g.came x));
     whole = λ x i. same_or x m (λ s. inl (subst (λ (y : ℕ). 0 < get_or (set q b c) y 0) (sym s) (omega (arith, at, pos-c))))
         (λ d. ⊎_elim (λ s. inl (omega (arith, s, other x d))) (λ j. ⊎_elim (λ s. absurd (d s)) inr (subst (λ (l : List ℕ). In x l) t.is j)) (g.whole x i));
     held = λ x i. inr (g.held x i);
-    only = λ x i. same_or x m (λ s. inr (subst Fresh (sym s) (was, at, first-in)))
+    only = λ x i. same_or x m (λ s. inr (subst Fresh (sym s) (was, at, first_in)))
         (λ d. ⊎_elim (λ s. absurd (d s)) (λ j. ⊎_elim inl (λ s. inr (s.0, other x d ∙ s.1, s.2)) (g.only x j)) i);
   }
     where
@@ -131,23 +131,23 @@ module _ {next from w : List ℕ} {c : ℕ} {p st q st' : List ℕ} {k : ℕ} (g
       Fresh x = (get_or p x 0 ≡ 0) × (get_or (set q b c) x 0 ≡ c) × In x w
 
   -- the stack as the code has it
-  pub turn-new-on : {fs gs : List Frame} (k' b a : ℕ) → st' ≡ blocksOn fs → gs ≡ frame m a ∷ fs → k' ≡ get_or next (k - 1) 0 → b ≡ m → get_or q m 0 ≡ 0 → m < length q → 0 < c → Going next from w c p st (set q b c) (blocksOn gs) k'
-  unfolding blocksOn
-  turn-new-on {fs} {gs} k' b a es eg e eb z h pos-c =
-      let i : m ∷ st' ≡ blocksOn gs = ap (λ (l : List ℕ). m ∷ l) es ∙ sym (ap blocksOn eg) in
-      subst (λ (l : List ℕ). Going next from w c p st (set q b c) l k') i (turn-new k' b e eb z h pos-c)
+  pub turn_new_on : {fs gs : List Frame} (k' b a : ℕ) → st' ≡ blocks_on fs → gs ≡ frame m a ∷ fs → k' ≡ get_or next (k - 1) 0 → b ≡ m → get_or q m 0 ≡ 0 → m < length q → 0 < c → Going next from w c p st (set q b c) (blocks_on gs) k'
+  unfolding blocks_on
+  turn_new_on {fs} {gs} k' b a es eg e eb z h pos-c =
+      let i : m ∷ st' ≡ blocks_on gs = ap (λ (l : List ℕ). m ∷ l) es ∙ sym (ap blocks_on eg) in
+      subst (λ (l : List ℕ). Going next from w c p st (set q b c) l k') i (turn_new k' b e eb z h pos-c)
 
 -- ---- how many are in pieces
 module _ (q : List ℕ) (m b c : ℕ) (eb : b ≡ m) (sized : length q ≡ blocks) (low : m < blocks) (free : get_or q m 0 ≡ 0) (pos : 0 < c) where
   pub join_more : marked (set q b c) blocks ≡ suc (marked q blocks)
   join_more = ap (λ (y : ℕ). marked (set q y c) blocks) eb ∙ marked_more q blocks m c low (omega (arith, sized, low)) free pos
 
-pub join-sized : (q : List ℕ) (b c : ℕ) → length q ≡ blocks → length (set q b c) ≡ blocks
-join-sized q b c h = simp length-set h
+pub join_sized : (q : List ℕ) (b c : ℕ) → length q ≡ blocks → length (set q b c) ≡ blocks
+join_sized q b c h = simp length-set h
 
 -- a block is taken off the stack, and as many are put on it as join
-pub join-less : (q q' : List ℕ) (len rest len' : ℕ) → len ≡ rest + 1 → len' + marked q blocks ≡ rest + marked q' blocks → len' + (blocks - marked q' blocks) < len + (blocks - marked q blocks)
-join-less q q' len rest len' e f = omega (arith, e, f, marked-most q blocks, marked-most q' blocks)
+pub join_less : (q q' : List ℕ) (len rest len' : ℕ) → len ≡ rest + 1 → len' + marked q blocks ≡ rest + marked q' blocks → len' + (blocks - marked q' blocks) < len + (blocks - marked q blocks)
+join_less q q' len rest len' e f = omega (arith, e, f, marked_most q blocks, marked_most q' blocks)
 
 -- ---- a piece, list by list
 
@@ -159,43 +159,43 @@ pub record Reaching (f : ℕ → List ℕ) (r c : ℕ) (p q st : List ℕ) : Typ
   pub shut : (y : ℕ) → get_or p y 0 ≡ 0 → 0 < get_or q y 0 → In y st ⊎ ((x : ℕ) → In x (f y) → 0 < get_or q x 0)
 
 module _ (f : ℕ → List ℕ) (r c : ℕ) (p : List ℕ) (b a : ℕ) {fs : List Frame} (eb : b ≡ r) (on : fs ≡ frame r a ∷ []) (sized : length p ≡ blocks) (low : r < blocks) (free : get_or p r 0 ≡ 0) where
-  root-at : get_or (set p b c) r 0 ≡ c
-  root-at = ap (λ (y : ℕ). get_or (set p y c) r 0) eb ∙ get_or-set_same p r c 0 (omega (arith, sized, low))
+  root_at : get_or (set p b c) r 0 ≡ c
+  root_at = ap (λ (y : ℕ). get_or (set p y c) r 0) eb ∙ get_or-set_same p r c 0 (omega (arith, sized, low))
 
-  root-else : (x : ℕ) → (x ≡ r → ⊥) → get_or (set p b c) x 0 ≡ get_or p x 0
-  root-else x d = get_or-set_other p b x c 0 (λ s. d (s ∙ eb))
+  root_else : (x : ℕ) → (x ≡ r → ⊥) → get_or (set p b c) x 0 ≡ get_or p x 0
+  root_else x d = get_or-set_other p b x c 0 (λ s. d (s ∙ eb))
 
   Rooted : ℕ → Type 0
   Rooted x = (get_or p x 0 ≡ 0) × (get_or (set p b c) x 0 ≡ c) × Back f p r x
 
   rooted : (x : ℕ) → x ≡ r → Rooted x
   unfolding Rooted
-  rooted x e = subst Rooted (sym e) (free, root-at, here refl)
+  rooted x e = subst Rooted (sym e) (free, root_at, here refl)
 
-  pub reach-start : Reaching f r c p (set p b c) (blocksOn fs)
-  unfolding blocksOn Rooted
-  reach-start = subst (λ (l : List Frame). Reaching f r c p (set p b c) (blocksOn l)) (sym on) (record {
-    came = λ x. same_or x r (λ e. inr (rooted x e)) (λ d. inl (root-else x d));
-    root = root-at;
+  pub reach_start : Reaching f r c p (set p b c) (blocks_on fs)
+  unfolding blocks_on Rooted
+  reach_start = subst (λ (l : List Frame). Reaching f r c p (set p b c) (blocks_on l)) (sym on) (record {
+    came = λ x. same_or x r (λ e. inr (rooted x e)) (λ d. inl (root_else x d));
+    root = root_at;
     stacked = λ x i. ⊎_elim (rooted x) (λ z. absurd z) i;
-    shut = λ y e h. same_or y r (λ s. inl (inl s)) (λ d. absurd (omega (arith, h, e, root-else y d)));
+    shut = λ y e h. same_or y r (λ s. inl (inl s)) (λ d. absurd (omega (arith, h, e, root_else y d)));
   })
 
-module _ {f : ℕ → List ℕ} {r c : ℕ} {p q : List ℕ} {fs gs : List Frame} {y a : ℕ} (pos : 0 < c) (g : Reaching f r c p q (blocksOn fs)) (top : fs ≡ frame y a ∷ gs) where
-  on-top : (x : ℕ) → In x (y ∷ blocksOn gs) → In x (blocksOn fs)
-  unfolding blocksOn
-  on-top x i = subst (λ (l : List Frame). In x (blocksOn l)) (sym top) i
+module _ {f : ℕ → List ℕ} {r c : ℕ} {p q : List ℕ} {fs gs : List Frame} {y a : ℕ} (pos : 0 < c) (g : Reaching f r c p q (blocks_on fs)) (top : fs ≡ frame y a ∷ gs) where
+  on_top : (x : ℕ) → In x (y ∷ blocks_on gs) → In x (blocks_on fs)
+  unfolding blocks_on
+  on_top x i = subst (λ (l : List Frame). In x (blocks_on l)) (sym top) i
 
-  off-top : (x : ℕ) → In x (blocksOn fs) → In x (y ∷ blocksOn gs)
-  unfolding blocksOn
-  off-top x i = subst (λ (l : List Frame). In x (blocksOn l)) top i
+  off_top : (x : ℕ) → In x (blocks_on fs) → In x (y ∷ blocks_on gs)
+  unfolding blocks_on
+  off_top x i = subst (λ (l : List Frame). In x (blocks_on l)) top i
 
-  pub reach-turn : {q' : List ℕ} (hs : List Frame) → Gathered (f y) c q (blocksOn gs) q' (blocksOn hs) → Reaching f r c p q' (blocksOn hs)
-  reach-turn {q'} hs h = record {
-    came = came-more;
+  pub reach_turn : {q' : List ℕ} (hs : List Frame) → Gathered (f y) c q (blocks_on gs) q' (blocks_on hs) → Reaching f r c p q' (blocks_on hs)
+  reach_turn {q'} hs h = record {
+    came = came_more;
     root = stays r (omega (arith, g.root, pos)) ∙ g.root;
-    stacked = λ x i. ⊎_elim (λ j. let s = g.stacked x (on-top x (inr j)) in (s.0, stays x (omega (arith, s.1, pos)) ∙ s.1, s.2)) (λ s. joined x s.0 s.1 s.2) (h.only x i);
-    shut = λ z e k. split-eq (get_or q z 0) (λ w. inl (fresh z w k)) (λ w. ⊎_elim (λ i. ⊎_elim (λ s. inr (λ x j. h.whole x (subst (λ (v : ℕ). In x (f v)) s j))) (λ j. inl (h.held z j)) (off-top z i)) (λ o. inr (λ x j. grows x (o x j))) (g.shut z e (omega (arith, w))));
+    stacked = λ x i. ⊎_elim (λ j. let s = g.stacked x (on_top x (inr j)) in (s.0, stays x (omega (arith, s.1, pos)) ∙ s.1, s.2)) (λ s. joined x s.0 s.1 s.2) (h.only x i);
+    shut = λ z e k. split_eq (get_or q z 0) (λ w. inl (fresh z w k)) (λ w. ⊎_elim (λ i. ⊎_elim (λ s. inr (λ x j. h.whole x (subst (λ (v : ℕ). In x (f v)) s j))) (λ j. inl (h.held z j)) (off_top z i)) (λ o. inr (λ x j. grows x (o x j))) (g.shut z e (omega (arith, w))));
   }
     where
       stays : (x : ℕ) → 0 < get_or q x 0 → get_or q' x 0 ≡ get_or q x 0
@@ -207,33 +207,33 @@ module _ {f : ℕ → List ℕ} {r c : ℕ} {p q : List ℕ} {fs gs : List Frame
       joined : (x : ℕ) → get_or q x 0 ≡ 0 → get_or q' x 0 ≡ c → In x (f y) → (get_or p x 0 ≡ 0) × (get_or q' x 0 ≡ c) × Back f p r x
       joined x e k i =
           let w : get_or p x 0 ≡ 0 = ⊎_elim (λ s. sym s ∙ e) (λ s. s.0) (g.came x) in
-          (w, k, over (g.stacked y (on-top y (inl refl))).2 i w)
+          (w, k, over (g.stacked y (on_top y (inl refl))).2 i w)
 
-      came-more : (x : ℕ) → (get_or q' x 0 ≡ get_or p x 0) ⊎ ((get_or p x 0 ≡ 0) × (get_or q' x 0 ≡ c) × Back f p r x)
-      came-more x = ⊎_elim (λ e. ⊎_elim (λ s. inl (e ∙ s)) (λ s. inr (s.0, e ∙ s.1, s.2)) (g.came x)) (λ s. inr (joined x s.0 s.1 s.2)) (h.came x)
+      came_more : (x : ℕ) → (get_or q' x 0 ≡ get_or p x 0) ⊎ ((get_or p x 0 ≡ 0) × (get_or q' x 0 ≡ c) × Back f p r x)
+      came_more x = ⊎_elim (λ e. ⊎_elim (λ s. inl (e ∙ s)) (λ s. inr (s.0, e ∙ s.1, s.2)) (g.came x)) (λ s. inr (joined x s.0 s.1 s.2)) (h.came x)
 
-      fresh : (x : ℕ) → get_or q x 0 ≡ 0 → 0 < get_or q' x 0 → In x (blocksOn hs)
+      fresh : (x : ℕ) → get_or q x 0 ≡ 0 → 0 < get_or q' x 0 → In x (blocks_on hs)
       fresh x e k = ⊎_elim (λ s. absurd (omega (arith, s, e, k))) (λ s. s.3) (h.came x)
 
-pub reach-end : (f : ℕ → List ℕ) (r c : ℕ) (p q : List ℕ) (fs : List Frame) → c ≡ suc r → fs ≡ [] → Reaching f r c p q (blocksOn fs) → Collected f r (suc r) p q
-unfolding blocksOn
-reach-end f r c p q fs e n g = subst (λ (k : ℕ). Collected f r k p q) e (record {
+pub reach_end : (f : ℕ → List ℕ) (r c : ℕ) (p q : List ℕ) (fs : List Frame) → c ≡ suc r → fs ≡ [] → Reaching f r c p q (blocks_on fs) → Collected f r (suc r) p q
+unfolding blocks_on
+reach_end f r c p q fs e n g = subst (λ (k : ℕ). Collected f r k p q) e (record {
   came = g.came;
   root = g.root;
-  shut = λ y z h. ⊎_elim (λ i. absurd (subst (λ (l : List Frame). In y (blocksOn l)) n i)) (λ o. o) (g.shut y z h);
+  shut = λ y z h. ⊎_elim (λ i. absurd (subst (λ (l : List Frame). In y (blocks_on l)) n i)) (λ o. o) (g.shut y z h);
 })
 
 -- the list of one block
 pub listing : {head next from : List ℕ} {f : ℕ → List ℕ} → Lists head next from arms f → (y k : ℕ) → k ≡ get_or head y 0 → Listing next from k
 listing {head} {next} {from} {f} h y k e = record { list = f y; linked = subst (λ (z : ℕ). Linked next from arms z (f y)) (sym e) (h.linked y); low = h.low y }
 
-pub linked-at : {head next from : List ℕ} {f : ℕ → List ℕ} → Lists head next from arms f → (y k : ℕ) → k ≡ get_or head y 0 → Linked next from arms k (f y)
-linked-at {head} {next} {from} {f} h y k e = subst (λ (z : ℕ). Linked next from arms z (f y)) (sym e) (h.linked y)
+pub linked_at : {head next from : List ℕ} {f : ℕ → List ℕ} → Lists head next from arms f → (y k : ℕ) → k ≡ get_or head y 0 → Linked next from arms k (f y)
+linked_at {head} {next} {from} {f} h y k e = subst (λ (z : ℕ). Linked next from arms z (f y)) (sym e) (h.linked y)
 
 -- ---- one block of the order more
 module _ {f : ℕ → List ℕ} {order p : List ℕ} (i : ℕ) (h : Sorted f order i p) where
-  pub sorted-old : 0 < get_or p (get_or order i 0) 0 → Sorted f order (i + 1) p
-  sorted-old k = rw (add-one i) (old h k)
+  pub sorted_old : 0 < get_or p (get_or order i 0) 0 → Sorted f order (i + 1) p
+  sorted_old k = rw (add-one i) (old h k)
 
-  pub sorted-new : {q : List ℕ} → get_or p (get_or order i 0) 0 ≡ 0 → Collected f (get_or order i 0) (suc (get_or order i 0)) p q → Sorted f order (i + 1) q
-  sorted-new e d = rw (add-one i) (new h e d)
+  pub sorted_new : {q : List ℕ} → get_or p (get_or order i 0) 0 ≡ 0 → Collected f (get_or order i 0) (suc (get_or order i 0)) p q → Sorted f order (i + 1) q
+  sorted_new e d = rw (add-one i) (new h e d)

@@ -6,8 +6,8 @@ use Rattle.rules.proofs.StackWalk.{Frame}
 use Rattle.cycles.specs.Inward.{Linked, Lists}
 
 -- the blocks on a stack
-unfoldable pub blocksOn : List Frame → List ℕ
-blocksOn st = map (λ (f : Frame). f.block) st
+unfoldable pub blocks_on : List Frame → List ℕ
+blocks_on st = map (λ (f : Frame). f.block) st
 
 -- the list w starts at k, and its blocks have room in the tables
 pub record Listing (next from : List ℕ) (k : ℕ) : Type 0 where

@@ -10,9 +10,9 @@ Linked next from top k [] = k ≡ 0
 Linked next from top k (m ∷ l) = (0 < k) × (k ≤ top) × (get_or from (k - 1) 0 ≡ m) × (get_or next (k - 1) 0 < k) × Linked next from top (get_or next (k - 1) 0) l
 
 pub record Sized (head next from : List ℕ) : Type 0 where
-  pub head-sized : length head ≡ blocks
-  pub next-sized : length next ≡ arms
-  pub from-sized : length from ≡ arms
+  pub head_sized : length head ≡ blocks
+  pub next_sized : length next ≡ arms
+  pub from_sized : length from ≡ arms
 
 -- the tables have the list f y for each block y, in their first `top` places
 pub record Lists (head next from : List ℕ) (top : ℕ) (f : ℕ → List ℕ) : Type 0 where
@@ -37,18 +37,18 @@ ins listed first count to (suc i) =
     entered (ins listed first count to i) (get_or listed i 0) to (get_or first (get_or listed i 0) 0) (get_or count (get_or listed i 0) 0)
 
 -- how many arms the first i listed blocks have
-unfoldable pub armsTo : List ℕ → List ℕ → ℕ → ℕ
-armsTo listed count zero = 0
-armsTo listed count (suc i) = armsTo listed count i + get_or count (get_or listed i 0) 0
+unfoldable pub arms_to : List ℕ → List ℕ → ℕ → ℕ
+arms_to listed count zero = 0
+arms_to listed count (suc i) = arms_to listed count i + get_or count (get_or listed i 0) 0
 
 -- what linking n listed blocks asks for: room, and arms that go to blocks
 pub record Linkable (listed first count to : List ℕ) (n : ℕ) : Type 0 where
   pub few : n ≤ blocks
-  pub listed-sized : length listed ≡ blocks
-  pub first-sized : length first ≡ blocks
-  pub count-sized : length count ≡ blocks
-  pub to-sized : length to ≡ arms
+  pub listed_sized : length listed ≡ blocks
+  pub first_sized : length first ≡ blocks
+  pub count_sized : length count ≡ blocks
+  pub to_sized : length to ≡ arms
   pub low : (i : ℕ) → i < n → get_or listed i 0 < blocks
   pub fits : (m : ℕ) → get_or first m 0 + get_or count m 0 ≤ arms
   pub goes : (i : ℕ) → i < n → (j : ℕ) → j < get_or count (get_or listed i 0) 0 → get_or to (get_or first (get_or listed i 0) 0 + j) 0 < blocks
-  pub room : armsTo listed count n ≤ arms
+  pub room : arms_to listed count n ≤ arms

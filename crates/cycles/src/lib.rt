@@ -2,12 +2,14 @@
 //
 // Two walks, after Kosaraju: the first along the arms, for the order in which blocks are finished (`walks::finished`);
 // the second against them, from the last that was finished on, and what it reaches from one block is one piece.
+#![tactic(auto)]
+
 ghost use Rattle.std.specs.Prelude.{◌≡◌, List, ℕ, suc, ◌+◌, ◌≤◌, ◌<◌, length, get_or};
 ghost use Rattle.limits.specs.Limits.{blocks, arms};
 ghost use Rattle.lists.specs.Marked.{marked};
 ghost use Rattle.stack.specs.Frames.{Roomy, frames};
 ghost use Rattle.cycles.specs.Inward.{Linked, Sized, Lists, added, entered, ins, Linkable};
-ghost use Rattle.cycles.specs.Gathering.{blocksOn, Listing, Gathered, Collected, Inward, Sorted};
+ghost use Rattle.cycles.specs.Gathering.{blocks_on, Listing, Gathered, Collected, Inward, Sorted};
 ghost use Rattle.cycles.specs.Pieces.{LentWithin, PiecesOver};
 
 use limits::{ARMS, BLOCKS};
@@ -96,7 +98,7 @@ fn gather<'a, 's>(
     requires next_len { (length next.now ≡ arms) × (length from.now ≡ arms) × Listing next.now from.now start × (0 < number) }
     requires piece_len { (length piece.old ≡ blocks) × (below ≤ marked piece.old blocks) × Roomy waiting.old started.old }
     ensures piece_len_2 { (length piece.new ≡ blocks) × (result + marked piece.old blocks ≡ below + marked piece.new blocks) × Roomy waiting.new started.new }
-    ensures by_index { (w : List ℕ) → Linked next.now from.now arms start w → Gathered w number piece.old (blocksOn (frames waiting.old started.old below)) piece.new (blocksOn (frames waiting.new started.new result)) }
+    ensures by_index { (w : List ℕ) → Linked next.now from.now arms start w → Gathered w number piece.old (blocks_on (frames waiting.old started.old below)) piece.new (blocks_on (frames waiting.new started.new result)) }
 {
     let mut len = below;
     let mut k = start;

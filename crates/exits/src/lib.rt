@@ -1,10 +1,12 @@
 // How each block of an order is left, and the bridges this takes: the order as it is laid.
+#![tactic(auto)]
+
 ghost use Rattle.std.specs.Prelude.{◌≡◌, cond, ◌+◌, ◌≤◌, ◌<◌, length, get_or, set, take};
 ghost use Rattle.limits.specs.Limits.{blocks, arms};
 ghost use Rattle.rules.specs.declared.Leaving.TheVariants.{Exchanged};
-ghost use Rattle.rules.specs.Exits.{indirect, exit_of, armsLeft};
-ghost use Rattle.records.specs.Tables.{armsFrom, blockTables, onlyArms, armTables, optional};
-ghost use Rattle.exits.specs.Lays.{leavingOf, goesTo, source_of, bridgedAt, bridgeArm, Below, next_at, Layable, Unlaid, Lays};
+ghost use Rattle.rules.specs.Exits.{indirect, exit_of, arms_left};
+ghost use Rattle.records.specs.Tables.{arms_from, block_tables, only_arms, arm_tables, optional};
+ghost use Rattle.exits.specs.Lays.{leaving_of, goes_to, source_of, bridged_at, bridge_arm, Below, next_at, Layable, Unlaid, Lays};
 
 use limits::{ARMS, BLOCKS, NUMBERS};
 use records::Order;
@@ -26,7 +28,7 @@ fn leaves_indirectly(end: u8) -> bool
 
 // A block with one arm: nothing where its target is laid next, else a jump.
 fn one(end: u8, next: bool) -> Leaving
-    ensures { result ≡ leavingOf end 1 next next }
+    ensures { result ≡ leaving_of end 1 next next }
 {
     if leaves_indirectly(end) {
         return Leaving::Nothing;
@@ -39,7 +41,7 @@ fn one(end: u8, next: bool) -> Leaving
 
 // A block with two arms or more, by whether the first and the second go to the next block.
 fn two(end: u8, first: bool, second: bool) -> Leaving
-    ensures { result ≡ leavingOf end 2 first second }
+    ensures { result ≡ leaving_of end 2 first second }
 {
     if leaves_indirectly(end) {
         return Leaving::Nothing;
@@ -66,7 +68,7 @@ fn two(end: u8, first: bool, second: bool) -> Leaving
 }
 
 fn edges(end: u8, arms: usize, first: bool, second: bool) -> Leaving
-    ensures { result ≡ leavingOf end arms first second }
+    ensures { result ≡ leaving_of end arms first second }
 {
     if arms == 0 {
         return Leaving::Nothing;
@@ -93,7 +95,7 @@ fn digit(end: u8, how: Leaving) -> u8
 // Arm j of the c arms from arm f on goes to the next block.
 fn goes(to: &[u16; ARMS], f: usize, c: usize, j: usize, next: usize) -> bool
     requires { (length to.now ≡ arms) × (f + c ≤ arms) }
-    ensures { result ≡ goesTo to.now f c j (optional next) }
+    ensures { result ≡ goes_to to.now f c j (optional next) }
 {
     if c <= j {
         return false;
@@ -115,7 +117,7 @@ fn leaving<'a>(
 ) -> Exit
     requires first_len { (length first.now ≡ blocks) × (length count.now ≡ blocks) × (length to.now ≡ arms) }
     requires n_bound { get_or first.now n 0 + get_or count.now n 0 ≤ arms }
-    ensures how_value { result.how ≡ leavingOf end (get_or count.now n 0) (goesTo to.now (get_or first.now n 0) (get_or count.now n 0) 0 (optional next)) (goesTo to.now (get_or first.now n 0) (get_or count.now n 0) 1 (optional next)) }
+    ensures how_value { result.how ≡ leaving_of end (get_or count.now n 0) (goes_to to.now (get_or first.now n 0) (get_or count.now n 0) 0 (optional next)) (goes_to to.now (get_or first.now n 0) (get_or count.now n 0) 1 (optional next)) }
     ensures digit_value { result.digit ≡ exit_of end result.how }
 {
     let f = lists::entry_of(first, n);
@@ -173,7 +175,7 @@ fn source(how: Leaving, c: usize, j: usize) -> usize
 
 // Arm j goes to a bridge.
 fn bridged(how: Leaving, j: usize) -> bool
-    ensures { result ≡ bridgedAt how j }
+    ensures { result ≡ bridged_at how j }
 {
     match how {
         Leaving::Nothing => false,
@@ -216,8 +218,8 @@ fn leave<'a>(
     requires newto_len { (length newto.old ≡ arms) × (length newargs.old ≡ arms) × (length newweight.old ≡ arms) }
     requires c_bound { (f + c ≤ arms) × (q + c ≤ arms) }
     ensures newto_len_2 { (length newto.new ≡ arms) × (length newargs.new ≡ arms) × (length newweight.new ≡ arms) }
-    ensures c_after { armsFrom (onlyArms newto.new newargs.new newweight.new) q c ≡ armsLeft new (armsFrom (onlyArms to.now args.now weight.now) f c) how }
-    ensures below { Below q (onlyArms newto.new newargs.new newweight.new) (onlyArms newto.old newargs.old newweight.old) }
+    ensures c_after { arms_from (only_arms newto.new newargs.new newweight.new) q c ≡ arms_left new (arms_from (only_arms to.now args.now weight.now) f c) how }
+    ensures below { Below q (only_arms newto.new newargs.new newweight.new) (only_arms newto.old newargs.old newweight.old) }
 {
     let mut j: usize = 0;
     while j < c {
@@ -233,7 +235,7 @@ fn leave<'a>(
 
 // The arm that a bridge takes, ARMS for none.
 fn bridge_arm(how: Leaving) -> usize
-    ensures { result ≡ bridgeArm how }
+    ensures { result ≡ bridge_arm how }
 {
     match how {
         Leaving::Nothing => ARMS,
@@ -342,9 +344,9 @@ pub fn lay<'a>(
     args: &mut [u8; ARMS],
     heft: &mut [u64; ARMS],
 ) -> Counts
-    requires layable { Layable marks.old ends.old weight.old (armTables ofirst.now ocount.now oto.now oargs.now oheft.now) o split }
-    requires unlaid { Unlaid listed.old place.old exits.old (armTables first.old count.old to.old args.old heft.old) }
-    ensures { Lays marks.old ends.old weight.old (armTables ofirst.now ocount.now oto.now oargs.now oheft.now) o split (blockTables place.new listed.new marks.new ends.new weight.new) (armTables first.new count.new to.new args.new heft.new) exits.new result }
+    requires layable { Layable marks.old ends.old weight.old (arm_tables ofirst.now ocount.now oto.now oargs.now oheft.now) o split }
+    requires unlaid { Unlaid listed.old place.old exits.old (arm_tables first.old count.old to.old args.old heft.old) }
+    ensures { Lays marks.old ends.old weight.old (arm_tables ofirst.now ocount.now oto.now oargs.now oheft.now) o split (block_tables place.new listed.new marks.new ends.new weight.new) (arm_tables first.new count.new to.new args.new heft.new) exits.new result }
 {
     let mut p: usize = 0;
     let mut q: usize = 0;

@@ -1,9 +1,11 @@
 // Arms to blocks that only pass control on go where those lead.
+#![tactic(auto)]
+
 ghost use Rattle.std.specs.Prelude.{◌≡◌, ℕ, suc, ◌+◌, ◌≤◌, ◌<◌, get_or};
 ghost use Rattle.limits.specs.Limits.{blocks, arms};
-ghost use Rattle.rules.specs.Graph.{isDead, hasParameters, isNamed, isAddressed};
+ghost use Rattle.rules.specs.Graph.{is_dead, has_parameters, is_named, is_addressed};
 ghost use Rattle.forwarding.specs.Forwards.{Forwardable, Forwards};
-ghost use Rattle.forwarding.specs.Steps.{oursOf, plain, passing, throughOf, chain, Safe, goalOf, goalsOf, goesTo, hopOf, differ, turn_of, move_of, turnsOf, movedOf, reachOf, reachedOf, uselessOf, deadOf, clearing, clearsOf, FirstIn, Sure};
+ghost use Rattle.forwarding.specs.Steps.{ours_of, plain, passing, through_of, chain, Safe, goal_of, goals_of, goes_to, hop_of, differ, turn_of, move_of, turns_of, moved_of, reach_of, reached_of, useless_of, dead_of, clearing, clears_of, FirstIn, Sure};
 
 use limits::{ARMS, BLOCKS};
 use records::faults;
@@ -27,25 +29,25 @@ fn at_arm(table: &[u16; ARMS], q: usize) -> usize
 // ---- marks
 
 fn is_dead(marks: u8) -> bool
-    ensures { result ≡ isDead marks }
+    ensures { result ≡ is_dead marks }
 {
     marks / 4 % 2 == 1
 }
 
 fn has_parameters(marks: u8) -> bool
-    ensures { result ≡ hasParameters marks }
+    ensures { result ≡ has_parameters marks }
 {
     marks / 8 % 2 == 1
 }
 
 fn is_named(marks: u8) -> bool
-    ensures { result ≡ isNamed marks }
+    ensures { result ≡ is_named marks }
 {
     marks / 16 % 2 == 1
 }
 
 fn is_addressed(marks: u8) -> bool
-    ensures { result ≡ isAddressed marks }
+    ensures { result ≡ is_addressed marks }
 {
     marks / 32 % 2 == 1
 }
@@ -95,7 +97,7 @@ fn through<'a>(
     n: usize,
 ) -> usize
     requires { (n < blocks) × FirstIn first.now }
-    ensures { result ≡ throughOf ends.now marks.now first.now count.now to.now args.now n }
+    ensures { result ≡ through_of ends.now marks.now first.now count.now to.now args.now n }
 {
     let q = at_block(first, n);
     if passes(ends[n], marks[n], at_block(count, n), args[q]) {
@@ -115,8 +117,8 @@ fn leaves_at<'a>(
     start: usize,
     steps: usize,
 ) -> usize
-    requires { FirstIn first.now × Safe (throughOf ends.now marks.now first.now count.now to.now args.now) steps start }
-    ensures { result ≡ chain (throughOf ends.now marks.now first.now count.now to.now args.now) steps start }
+    requires { FirstIn first.now × Safe (through_of ends.now marks.now first.now count.now to.now args.now) steps start }
+    ensures { result ≡ chain (through_of ends.now marks.now first.now count.now to.now args.now) steps start }
 {
     let mut at: usize = start;
     let mut left: usize = steps;
@@ -142,8 +144,8 @@ fn goal<'a>(
     n: usize,
     steps: usize,
 ) -> usize
-    requires { FirstIn first.now × Safe (throughOf ends.now marks.now first.now count.now to.now args.now) (suc steps) n }
-    ensures { result ≡ goalOf (throughOf ends.now marks.now first.now count.now to.now args.now) steps n }
+    requires { FirstIn first.now × Safe (through_of ends.now marks.now first.now count.now to.now args.now) (suc steps) n }
+    ensures { result ≡ goal_of (through_of ends.now marks.now first.now count.now to.now args.now) steps n }
 {
     let next = through(ends, marks, first, count, to, args, n);
     if next == BLOCKS {
@@ -164,8 +166,8 @@ fn goals<'a>(
     n: usize,
     onward: &mut [u16; BLOCKS],
 )
-    requires { (n ≤ blocks) × FirstIn first.now × ((i : ℕ) → i < n → Safe (throughOf ends.now marks.now first.now count.now to.now args.now) (suc n) (get_or listed.now i 0)) }
-    ensures { onward.new ≡ goalsOf (throughOf ends.now marks.now first.now count.now to.now args.now) listed.now n onward.old n }
+    requires { (n ≤ blocks) × FirstIn first.now × ((i : ℕ) → i < n → Safe (through_of ends.now marks.now first.now count.now to.now args.now) (suc n) (get_or listed.now i 0)) }
+    ensures { onward.new ≡ goals_of (through_of ends.now marks.now first.now count.now to.now args.now) listed.now n onward.old n }
 {
     let mut i: usize = 0;
     while i < n {
@@ -180,7 +182,7 @@ fn goals<'a>(
 
 // Whether a block's arms can be sent elsewhere by rewriting them alone.
 fn ours(end: u8, count: usize) -> bool
-    ensures { result ≡ oursOf end count }
+    ensures { result ≡ ours_of end count }
 {
     if count == 0 {
         return false;
@@ -200,7 +202,7 @@ fn ours(end: u8, count: usize) -> bool
 // Whether one of `count` arms from `first` on goes to block m.
 fn goes_to(to: &[u16; ARMS], first: usize, count: usize, m: usize) -> bool
     requires { first + count ≤ arms }
-    ensures { result ≡ goesTo to.now first count m }
+    ensures { result ≡ goes_to to.now first count m }
 {
     let mut q: usize = first;
     let mut left: usize = count;
@@ -217,7 +219,7 @@ fn goes_to(to: &[u16; ARMS], first: usize, count: usize, m: usize) -> bool
 // Where arm q goes on to: the goal of its target, unless one of its block's arms goes there already.
 fn hop(onward: &[u16; BLOCKS], to: &[u16; ARMS], first: usize, count: usize, q: usize) -> usize
     requires { (first + count ≤ arms) × (q < arms) × (get_or to.now q 0 < blocks) }
-    ensures { result ≡ hopOf onward.now to.now first count q }
+    ensures { result ≡ hop_of onward.now to.now first count q }
 {
     let here = at_arm(to, q);
     let m = at_block(onward, here);
@@ -274,7 +276,7 @@ fn move_arms<'a>(
     to: &mut [u16; ARMS],
 ) -> usize
     requires { Sure listed.now first.now count.now to.old n }
-    ensures { (result ≡ movedOf onward.now listed.now ends.now first.now count.now to.old n) × (to.new ≡ turnsOf onward.now listed.now ends.now first.now count.now to.old n) }
+    ensures { (result ≡ moved_of onward.now listed.now ends.now first.now count.now to.old n) × (to.new ≡ turns_of onward.now listed.now ends.now first.now count.now to.old n) }
 {
     let mut moved: usize = 0;
     let mut i: usize = 0;
@@ -293,7 +295,7 @@ fn move_arms<'a>(
 // The blocks that `count` arms from `first` on go to.
 fn reach(to: &[u16; ARMS], first: usize, count: usize, reached: &mut [u8; BLOCKS])
     requires { (first + count ≤ arms) × ((j : ℕ) → j < count → get_or to.now (first + j) 0 < blocks) }
-    ensures { reached.new ≡ reachOf to.now first reached.old count }
+    ensures { reached.new ≡ reach_of to.now first reached.old count }
 {
     let mut j: usize = 0;
     while j < count {
@@ -313,7 +315,7 @@ fn reach_all<'a>(
     reached: &mut [u8; BLOCKS],
 )
     requires { Sure listed.now first.now count.now to.now n }
-    ensures { reached.new ≡ reachedOf listed.now first.now count.now to.now reached.old n }
+    ensures { reached.new ≡ reached_of listed.now first.now count.now to.now reached.old n }
 {
     let mut i: usize = 0;
     while i < n {
@@ -327,7 +329,7 @@ fn reach_all<'a>(
 
 // Whether a block is of no use any more: it has a goal, no arm in, and its address is not taken.
 fn useless(goal: usize, reached: u8, marks: u8) -> bool
-    ensures { result ≡ uselessOf goal reached marks }
+    ensures { result ≡ useless_of goal reached marks }
 {
     if BLOCKS <= goal {
         return false;
@@ -340,7 +342,7 @@ fn useless(goal: usize, reached: u8, marks: u8) -> bool
 
 // The marks of a dead end.
 fn dead(marks: u8) -> u8
-    ensures { result ≡ deadOf marks }
+    ensures { result ≡ dead_of marks }
 {
     if is_dead(marks) { marks } else { marks + 4 }
 }
@@ -356,7 +358,7 @@ fn clear<'a>(
     count: &mut [u16; BLOCKS],
 )
     requires { (n ≤ blocks) × ((i : ℕ) → i < n → get_or listed.now i 0 < blocks) }
-    ensures { clearing marks.new weight.new count.new ≡ clearsOf onward.now reached.now listed.now (clearing marks.old weight.old count.old) n }
+    ensures { clearing marks.new weight.new count.new ≡ clears_of onward.now reached.now listed.now (clearing marks.old weight.old count.old) n }
 {
     let mut i: usize = 0;
     while i < n {

@@ -1,7 +1,7 @@
 -- What `heads` asks of the tables that it is lent, and what it answers.
 use Rattle.std.specs.Prelude.{ℕ, ◌<◌, ◌≡◌, List, get_or}
 use Rattle.limits.specs.Limits.{blocks, arms}
-use Rattle.rules.specs.Heads.{headAt}
+use Rattle.rules.specs.Heads.{head_at}
 use Rattle.rules.proofs.Wholeness.{Whole}
 use Rattle.records.specs.declared.Graph.{Graph}
 use Rattle.records.specs.Tables.{tabled, Stands}
@@ -24,4 +24,4 @@ pub record LentPlaced (listed place weight first count to : List ℕ) (n : ℕ) 
 -- for every t that has the tables and stands for a whole graph: the set has the graph's heads, by place
 abbrev pub HeadsOver : List ℕ → List ℕ → List ℕ → List ℕ → List ℕ → List ℕ → ℕ → List ℕ → Type 0
 HeadsOver listed place weight first count to n set =
-    (t : Graph) → OverPlaced t listed place weight first count to n → Stands blocks arms t (tabled t) → Whole (tabled t) → (i : ℕ) → i < n → member set (get_or listed i 0) ≡ headAt (tabled t) i
+    (t : Graph) → OverPlaced t listed place weight first count to n → Stands blocks arms t (tabled t) → Whole (tabled t) → (i : ℕ) → i < n → member set (get_or listed i 0) ≡ head_at (tabled t) i

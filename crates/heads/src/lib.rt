@@ -2,10 +2,12 @@
 //
 // The first place is never one, and neither is a block that weighs less than the hottest weight divided by 100, rounded
 // down.
+#![tactic(auto)]
+
 ghost use Rattle.std.specs.Prelude.{◌≡◌, false, ◌||◌, ℕ, ◌+◌, ◌≤◌, ◌<◌, max, length, get_or};
 ghost use Rattle.limits.specs.Limits.{blocks, arms};
 ghost use Rattle.marks.specs.Sets.{room, member};
-ghost use Rattle.heads.specs.Heading.{hotTo, behind, armsBack, tables, backTo, heads, headTo, Enterable};
+ghost use Rattle.heads.specs.Heading.{hot_to, behind, arms_back, tables, back_to, heads, head_to, Enterable};
 ghost use Rattle.heads.specs.Lent.{LentPlaced, HeadsOver};
 
 use limits::{ARMS, BLOCKS};
@@ -22,7 +24,7 @@ fn greater(a: u64, b: u64) -> u64
 // The greatest weight of n listed blocks.
 fn hottest<'a>(listed: &'a [u16; BLOCKS], weight: &'a [u64; BLOCKS], n: usize) -> u64
     requires { (n ≤ blocks) × (length listed.now ≡ blocks) × (length weight.now ≡ blocks) }
-    ensures { result ≡ hotTo listed.now weight.now n }
+    ensures { result ≡ hot_to listed.now weight.now n }
 {
     let mut hot: u64 = 0;
     let mut i: usize = 0;
@@ -64,7 +66,7 @@ fn mark_arms<'a>(
     requires to_len { (length to.now ≡ arms) × (length place.now ≡ blocks) × (length piece.now ≡ blocks) × (length back.old ≡ room) × (q + n ≤ arms) }
     requires by_index { (j : ℕ) → j < n → get_or to.now (q + j) 0 < blocks }
     ensures back_len { length back.new ≡ room }
-    ensures by_index_2 { (m : ℕ) → member back.new m ≡ member back.old m || armsBack to.now place.now piece.now c p q n m }
+    ensures by_index_2 { (m : ℕ) → member back.new m ≡ member back.old m || arms_back to.now place.now piece.now c p q n m }
 {
     let mut j: usize = 0;
     while j < n {
@@ -90,7 +92,7 @@ fn mark_back<'a>(
     requires enterable { Enterable (tables listed.now place.now first.now count.now to.now piece.now) n }
     requires back_len { (length back.old ≡ room) × ((m : ℕ) → member back.old m ≡ false) }
     ensures back_len_2 { length back.new ≡ room }
-    ensures by_index { (m : ℕ) → member back.new m ≡ backTo (tables listed.now place.now first.now count.now to.now piece.now) n m }
+    ensures by_index { (m : ℕ) → member back.new m ≡ back_to (tables listed.now place.now first.now count.now to.now piece.now) n m }
 {
     let mut i: usize = 0;
     while i < n {
@@ -123,7 +125,7 @@ fn mark_heads<'a>(
 )
     requires n_le_blocks { (n ≤ blocks) × (length listed.now ≡ blocks) × (length weight.now ≡ blocks) × (length back.now ≡ room) × ((i : ℕ) → i < n → get_or listed.now i 0 < blocks) }
     requires set_len { (length set.old ≡ room) × ((m : ℕ) → member set.old m ≡ false) }
-    ensures { (length set.new ≡ room) × ((m : ℕ) → member set.new m ≡ headTo listed.now (heads weight.now back.now floor) n m) }
+    ensures { (length set.new ≡ room) × ((m : ℕ) → member set.new m ≡ head_to listed.now (heads weight.now back.now floor) n m) }
 {
     let mut i: usize = 1;
     while i < n {

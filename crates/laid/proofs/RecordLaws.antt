@@ -8,107 +8,107 @@ use mathlib.Core.List.{List, [], ◌∷◌, ◌++◌, append_assoc, append-nil}
 use lib.ListN.{length, get_or, take, drop, length-append}
 use Rattle.limits.specs.Limits.{size}
 use Rattle.lists.specs.Behind.{behind}
-use Rattle.lists.proofs.Parts.{fill_more, behind-front}
+use Rattle.lists.proofs.Parts.{fill_more, behind_front}
 use Rattle.marks.specs.Sets.{member}
 use Rattle.rules.specs.Graph as graph
-use Rattle.rules.specs.Records.{fields, armsBytes}
-use Rattle.rules.specs.Within.{armTotal}
+use Rattle.rules.specs.Records.{fields, arms_bytes}
+use Rattle.rules.specs.Within.{arm_total}
 use Rattle.rules.specs.Exits.{Place}
-use Rattle.rules.specs.Heads.{headAt}
-use Rattle.rules.specs.Laid.{placeBytes, placesBytes, laidBytes}
-use Rattle.rules.proofs.LaidLength.{laid-length}
+use Rattle.rules.specs.Heads.{head_at}
+use Rattle.rules.specs.Laid.{place_bytes, places_bytes, laid_bytes}
+use Rattle.rules.proofs.LaidLength.{laid_length}
 use Rattle.records.specs.declared.Blocks.{Blocks}
 use Rattle.records.specs.declared.Arms.{Arms}
-use Rattle.records.specs.Tables.{onlyBlocks, onlyListed, block_at, up_to}
-use Rattle.writer.proofs.WriteLaws.{only-listed}
-use Rattle.exits.specs.Lays.{placeAt, placesTo}
-use Rattle.exits.proofs.Finished.{places-graph}
-use Rattle.laid.specs.Written.{recordOf, recordsTo}
+use Rattle.records.specs.Tables.{only_blocks, only_listed, block_at, up_to}
+use Rattle.writer.proofs.WriteLaws.{only_listed_lem}
+use Rattle.exits.specs.Lays.{place_at, places_to}
+use Rattle.exits.proofs.Finished.{places_graph}
+use Rattle.laid.specs.Written.{record_of, records_to}
 
 module _ (b : Blocks) (exits heads : List ℕ) (split : ℕ) where
-  record-length : (i : ℕ) → length (recordOf b exits heads split i) ≡ size
-  unfolding recordOf fields
-  record-length i = refl
+  record_length : (i : ℕ) → length (record_of b exits heads split i) ≡ size
+  unfolding record_of fields
+  record_length i = refl
 
-  pub records-length : (i : ℕ) → length (recordsTo b exits heads split i) ≡ size * i
-  unfolding recordsTo
-  records-length zero = refl
-  records-length (suc i) = length-append (recordsTo b exits heads split i) (recordOf b exits heads split i) ∙ omega (arith, records-length i, record-length i)
+  pub records_length : (i : ℕ) → length (records_to b exits heads split i) ≡ size * i
+  unfolding records_to
+  records_length zero = refl
+  records_length (suc i) = length-append (records_to b exits heads split i) (record_of b exits heads split i) ∙ omega (arith, records_length i, record_length i)
 
-  pub records-turn : (d o ys : List ℕ) (i : ℕ) → o ≡ recordsTo b exits heads split i ++ drop (size * i) d → ys ≡ recordOf b exits heads split i
-      → take (size * i) o ++ (ys ++ drop (size * i + size - size * i) (drop (size * i) o)) ≡ recordsTo b exits heads split (i + 1) ++ drop (size * (i + 1)) d
-  unfolding recordsTo
-  records-turn d o ys i e y =
+  pub records_turn : (d o ys : List ℕ) (i : ℕ) → o ≡ records_to b exits heads split i ++ drop (size * i) d → ys ≡ record_of b exits heads split i
+      → take (size * i) o ++ (ys ++ drop (size * i + size - size * i) (drop (size * i) o)) ≡ records_to b exits heads split (i + 1) ++ drop (size * (i + 1)) d
+  unfolding records_to
+  records_turn d o ys i e y =
       let k : size * i + size ≡ size * (i + 1) = omega arith in
-      let m : recordsTo b exits heads split i ++ ys ≡ recordsTo b exits heads split (i + 1) = ap (λ (l : List ℕ). recordsTo b exits heads split i ++ l) y ∙ ap (recordsTo b exits heads split) (sym (add-one i)) in
-      fill_more (recordsTo b exits heads split i) ys d o (size * i) size (records-length i) e
-      ∙ ap (λ (n : ℕ). (recordsTo b exits heads split i ++ ys) ++ drop n d) k
+      let m : records_to b exits heads split i ++ ys ≡ records_to b exits heads split (i + 1) = ap (λ (l : List ℕ). records_to b exits heads split i ++ l) y ∙ ap (records_to b exits heads split) (sym (add-one i)) in
+      fill_more (records_to b exits heads split i) ys d o (size * i) size (records_length i) e
+      ∙ ap (λ (n : ℕ). (records_to b exits heads split i ++ ys) ++ drop n d) k
       ∙ ap (λ (l : List ℕ). l ++ drop (size * (i + 1)) d) m
 
 -- ---- by the rule
-places-append : (g : graph.Graph) (split i : ℕ) (s t : List Place) → placesBytes g split i (s ++ t) ≡ placesBytes g split i s ++ placesBytes g split (i + length s) t
-unfolding placesBytes
-places-append g split i [] t = rw add-zero
-places-append g split i (p ∷ s) t =
+places_append : (g : graph.Graph) (split i : ℕ) (s t : List Place) → places_bytes g split i (s ++ t) ≡ places_bytes g split i s ++ places_bytes g split (i + length s) t
+unfolding places_bytes
+places_append g split i [] t = rw add-zero
+places_append g split i (p ∷ s) t =
     let e : suc i + length s ≡ i + suc (length s) = omega arith in
-    ap (λ (l : List ℕ). placeBytes g split i p ++ l) (places-append g split (suc i) s t)
-    ∙ sym (append_assoc (placeBytes g split i p) (placesBytes g split (suc i) s) (placesBytes g split (suc i + length s) t))
-    ∙ ap (λ (n : ℕ). (placeBytes g split i p ++ placesBytes g split (suc i) s) ++ placesBytes g split n t) e
+    ap (λ (l : List ℕ). place_bytes g split i p ++ l) (places_append g split (suc i) s t)
+    ∙ sym (append_assoc (place_bytes g split i p) (places_bytes g split (suc i) s) (places_bytes g split (suc i + length s) t))
+    ∙ ap (λ (n : ℕ). (place_bytes g split i p ++ places_bytes g split (suc i) s) ++ places_bytes g split n t) e
 
-places-long : (b : Blocks) (a : Arms) (exits : List ℕ) (p : ℕ) → length (placesTo b a exits p) ≡ p
-unfolding placesTo
-places-long b a exits zero = refl
-places-long b a exits (suc p) = length-append (placesTo b a exits p) (placeAt b a exits (get_or b.listed p 0) ∷ []) ∙ omega (arith, places-long b a exits p)
+places_long : (b : Blocks) (a : Arms) (exits : List ℕ) (p : ℕ) → length (places_to b a exits p) ≡ p
+unfolding places_to
+places_long b a exits zero = refl
+places_long b a exits (suc p) = length-append (places_to b a exits p) (place_at b a exits (get_or b.listed p 0) ∷ []) ∙ omega (arith, places_long b a exits p)
 
 module _ (b : Blocks) (a : Arms) (exits heads : List ℕ) (split : ℕ) (g : graph.Graph) where
-  place-record : (i : ℕ) → member heads (get_or b.listed i 0) ≡ headAt g i → placeBytes g split i (placeAt b a exits (get_or b.listed i 0)) ≡ recordOf b exits heads split i
-  unfolding placeBytes recordOf placeAt block_at
-  place-record i e = rw (← e)
+  place_record : (i : ℕ) → member heads (get_or b.listed i 0) ≡ head_at g i → place_bytes g split i (place_at b a exits (get_or b.listed i 0)) ≡ record_of b exits heads split i
+  unfolding place_bytes record_of place_at block_at
+  place_record i e = rw (← e)
 
-  pub places-records : (n : ℕ) → ((i : ℕ) → i < n → member heads (get_or b.listed i 0) ≡ headAt g i) → placesBytes g split 0 (placesTo b a exits n) ≡ recordsTo b exits heads split n
-  unfolding placesTo placesBytes recordsTo
-  places-records zero h = refl
-  places-records (suc n) h =
-      let p = placeAt b a exits (get_or b.listed n 0) in
-      places-append g split 0 (placesTo b a exits n) (p ∷ [])
-      ∙ ap (λ (k : ℕ). placesBytes g split 0 (placesTo b a exits n) ++ (placeBytes g split k p ++ [])) (zero-plus (length (placesTo b a exits n)) ∙ places-long b a exits n)
-      ∙ ap (λ (l : List ℕ). l ++ (placeBytes g split n p ++ [])) (places-records n (λ i k. h i (omega (arith, k))))
-      ∙ ap (λ (l : List ℕ). recordsTo b exits heads split n ++ l) (append-nil (placeBytes g split n p) ∙ place-record n (h n (omega arith)))
+  pub places_records : (n : ℕ) → ((i : ℕ) → i < n → member heads (get_or b.listed i 0) ≡ head_at g i) → places_bytes g split 0 (places_to b a exits n) ≡ records_to b exits heads split n
+  unfolding places_to places_bytes records_to
+  places_records zero h = refl
+  places_records (suc n) h =
+      let p = place_at b a exits (get_or b.listed n 0) in
+      places_append g split 0 (places_to b a exits n) (p ∷ [])
+      ∙ ap (λ (k : ℕ). places_bytes g split 0 (places_to b a exits n) ++ (place_bytes g split k p ++ [])) (zero_plus (length (places_to b a exits n)) ∙ places_long b a exits n)
+      ∙ ap (λ (l : List ℕ). l ++ (place_bytes g split n p ++ [])) (places_records n (λ i k. h i (omega (arith, k))))
+      ∙ ap (λ (l : List ℕ). records_to b exits heads split n ++ l) (append-nil (place_bytes g split n p) ∙ place_record n (h n (omega arith)))
     where
-      zero-plus : (k : ℕ) → 0 + k ≡ k
-      zero-plus k = omega arith
+      zero_plus : (k : ℕ) → 0 + k ≡ k
+      zero_plus k = omega arith
 
 -- the whole file
-pub laid-parts : (b : Blocks) (a : Arms) (exits heads : List ℕ) (split n : ℕ) → ((i : ℕ) → i < n → member heads (get_or b.listed i 0) ≡ headAt (up_to b a n) i) →
-    laidBytes split (placesTo b a exits n) ≡ recordsTo b exits heads split n ++ armsBytes (up_to b a n)
-unfolding laidBytes
-laid-parts b a exits heads split n h =
-    rw (places-graph b a exits n) (ap (λ (l : List ℕ). l ++ armsBytes (up_to b a n)) (places-records b a exits heads split (up_to b a n) n h))
+pub laid_parts : (b : Blocks) (a : Arms) (exits heads : List ℕ) (split n : ℕ) → ((i : ℕ) → i < n → member heads (get_or b.listed i 0) ≡ head_at (up_to b a n) i) →
+    laid_bytes split (places_to b a exits n) ≡ records_to b exits heads split n ++ arms_bytes (up_to b a n)
+unfolding laid_bytes
+laid_parts b a exits heads split n h =
+    rw (places_graph b a exits n) (ap (λ (l : List ℕ). l ++ arms_bytes (up_to b a n)) (places_records b a exits heads split (up_to b a n) n h))
 
-module _ (b : Blocks) (a : Arms) (exits heads : List ℕ) (split n : ℕ) (h : (i : ℕ) → i < n → member heads (get_or b.listed i 0) ≡ headAt (up_to b a n) i) where
+module _ (b : Blocks) (a : Arms) (exits heads : List ℕ) (split n : ℕ) (h : (i : ℕ) → i < n → member heads (get_or b.listed i 0) ≡ head_at (up_to b a n) i) where
   -- how long its two parts are
-  pub arms-size : length (armsBytes (up_to b a n)) ≡ size * armTotal (up_to b a n)
-  arms-size =
+  pub arms_size : length (arms_bytes (up_to b a n)) ≡ size * arm_total (up_to b a n)
+  arms_size =
       omega (
         arith,
-        ap length (laid-parts b a exits heads split n h),
-        length-append (recordsTo b exits heads split n) (armsBytes (up_to b a n)),
-        records-length b exits heads split n,
-        laid-length split (placesTo b a exits n),
-        places-long b a exits n,
-        ap armTotal (places-graph b a exits n),
+        ap length (laid_parts b a exits heads split n h),
+        length-append (records_to b exits heads split n) (arms_bytes (up_to b a n)),
+        records_length b exits heads split n,
+        laid_length split (places_to b a exits n),
+        places_long b a exits n,
+        ap arm_total (places_graph b a exits n),
       )
 
   -- the places are written, and then the arms behind them
-  pub both-parts : (d o : List ℕ) → o ≡ recordsTo b exits heads split n ++ drop (size * n) d →
-      behind (size * n) (armsBytes (up_to (onlyListed b.listed) a n)) o ≡ laidBytes split (placesTo b a exits n) ++ drop (length (laidBytes split (placesTo b a exits n))) d
-  both-parts d o e =
-      ap₂ (behind (size * n)) (only-listed b a n) e
-      ∙ behind-front (recordsTo b exits heads split n) (armsBytes (up_to b a n)) d (size * n) (records-length b exits heads split n)
-      ∙ ap (λ (l : List ℕ). l ++ drop (length l) d) (sym (laid-parts b a exits heads split n h))
+  pub both_parts : (d o : List ℕ) → o ≡ records_to b exits heads split n ++ drop (size * n) d →
+      behind (size * n) (arms_bytes (up_to (only_listed b.listed) a n)) o ≡ laid_bytes split (places_to b a exits n) ++ drop (length (laid_bytes split (places_to b a exits n))) d
+  both_parts d o e =
+      ap₂ (behind (size * n)) (only_listed_lem b a n) e
+      ∙ behind_front (records_to b exits heads split n) (arms_bytes (up_to b a n)) d (size * n) (records_length b exits heads split n)
+      ∙ ap (λ (l : List ℕ). l ++ drop (length l) d) (sym (laid_parts b a exits heads split n h))
 
 -- places are the same whatever table says where blocks stand
-pub only-places : (b : Blocks) (a : Arms) (exits : List ℕ) (p : ℕ) → placesTo (onlyBlocks b.listed b.marks b.ends b.weight) a exits p ≡ placesTo b a exits p
-unfolding placesTo placeAt block_at
-only-places b a exits zero = refl
-only-places b a exits (suc p) = ap (λ (l : List Place). l ++ (placeAt b a exits (get_or b.listed p 0) ∷ [])) (only-places b a exits p)
+pub only_places : (b : Blocks) (a : Arms) (exits : List ℕ) (p : ℕ) → places_to (only_blocks b.listed b.marks b.ends b.weight) a exits p ≡ places_to b a exits p
+unfolding places_to place_at block_at
+only_places b a exits zero = refl
+only_places b a exits (suc p) = ap (λ (l : List Place). l ++ (place_at b a exits (get_or b.listed p 0) ∷ [])) (only_places b a exits p)

@@ -1,11 +1,13 @@
 // A laid graph written as records: its places, then the arms of each in that order.
+#![tactic(auto)]
+
 ghost use Rattle.std.specs.Prelude.{◌≡◌, cond, ◌++◌, ◌+◌, ◌*◌, ◌≤◌, ◌<◌, eqb, leb, length, drop};
-ghost use Rattle.limits.specs.Limits.{size, numbers, marksBelow, blocks};
+ghost use Rattle.limits.specs.Limits.{size, numbers, marks_below, blocks};
 ghost use Rattle.marks.specs.Sets.{room};
-ghost use Rattle.rules.specs.Laid.{laidBytes};
-ghost use Rattle.records.specs.Tables.{onlyBlocks, armTables};
-ghost use Rattle.exits.specs.Lays.{placesTo};
-ghost use Rattle.laid.specs.Written.{recordsTo, Small, HeadsOf, Writable};
+ghost use Rattle.rules.specs.Laid.{laid_bytes};
+ghost use Rattle.records.specs.Tables.{only_blocks, arm_tables};
+ghost use Rattle.exits.specs.Lays.{places_to};
+ghost use Rattle.laid.specs.Written.{records_to, Small, HeadsOf, Writable};
 
 use limits::{ARMS, BLOCKS, MARKS, NUMBERS, RECORD};
 use records::fields;
@@ -19,8 +21,8 @@ fn kind(n: u16) -> u8
 
 // "mark bit 7 for a head"
 fn head_marks(marks: u8, head: bool) -> u8
-    requires { marks < marksBelow }
-    ensures { result ≡ marks + cond head marksBelow 0 }
+    requires { marks < marks_below }
+    ensures { result ≡ marks + cond head marks_below 0 }
 {
     if head { marks + MARKS } else { marks }
 }
@@ -45,9 +47,9 @@ fn put_places<'a>(
     out: &mut [u8],
 )
     requires n_le_blocks { (n ≤ blocks) × (length marks.now ≡ blocks) × (length ends.now ≡ blocks) × (length weight.now ≡ blocks) × (length exits.now ≡ blocks) × (length heads.now ≡ room) }
-    requires small { Small (onlyBlocks listed.now marks.now ends.now weight.now) n }
+    requires small { Small (only_blocks listed.now marks.now ends.now weight.now) n }
     requires n_in_bounds { size * n ≤ length out.old }
-    ensures { out.new ≡ recordsTo (onlyBlocks listed.now marks.now ends.now weight.now) exits.now heads.now split n ++ drop (size * n) out.old }
+    ensures { out.new ≡ records_to (only_blocks listed.now marks.now ends.now weight.now) exits.now heads.now split n ++ drop (size * n) out.old }
 {
     let mut i: usize = 0;
     while i < n {
@@ -84,8 +86,8 @@ pub fn write<'a>(
     split: usize,
     out: &mut [u8],
 )
-    requires { HeadsOf (onlyBlocks listed.now marks.now ends.now weight.now) (armTables first.now count.now to.now args.now heft.now) n heads.now × Writable (onlyBlocks listed.now marks.now ends.now weight.now) (armTables first.now count.now to.now args.now heft.now) exits.now n (length out.old) }
-    ensures { out.new ≡ laidBytes split (placesTo (onlyBlocks listed.now marks.now ends.now weight.now) (armTables first.now count.now to.now args.now heft.now) exits.now n) ++ drop (length (laidBytes split (placesTo (onlyBlocks listed.now marks.now ends.now weight.now) (armTables first.now count.now to.now args.now heft.now) exits.now n))) out.old }
+    requires { HeadsOf (only_blocks listed.now marks.now ends.now weight.now) (arm_tables first.now count.now to.now args.now heft.now) n heads.now × Writable (only_blocks listed.now marks.now ends.now weight.now) (arm_tables first.now count.now to.now args.now heft.now) exits.now n (length out.old) }
+    ensures { out.new ≡ laid_bytes split (places_to (only_blocks listed.now marks.now ends.now weight.now) (arm_tables first.now count.now to.now args.now heft.now) exits.now n) ++ drop (length (laid_bytes split (places_to (only_blocks listed.now marks.now ends.now weight.now) (arm_tables first.now count.now to.now args.now heft.now) exits.now n))) out.old }
 {
     put_places(listed, marks, ends, weight, exits, heads, n, split, out);
     writer::put_arms(listed, first, count, to, args, heft, n, out);

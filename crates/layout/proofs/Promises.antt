@@ -15,19 +15,19 @@ use Rattle.rules.specs.Graph.{Graph}
 use Rattle.rules.specs.Records.{records, graph_of}
 use Rattle.rules.specs.Refusals.{verdict}
 use Rattle.rules.specs.Exits.{Place, bridges}
-use Rattle.rules.specs.Laid.{layout, splitOf, laidBytes}
-use Rattle.rules.specs.Outcome.{Outcome, refusal, refused, laid, layout_of, layoutBlocks}
-use Rattle.rules.proofs.Demands.{Demands, accepted-demands}
+use Rattle.rules.specs.Laid.{layout, split_of, laid_bytes}
+use Rattle.rules.specs.Outcome.{Outcome, refusal, refused, laid, layout_of, layout_blocks}
+use Rattle.rules.proofs.Demands.{Demands, accepted_demands}
 
 module _ (forward reorder : Bool) (s d : List ℕ) where
   -- the contract of `layout_blocks` allows this answer with these lent bytes
   pub record Allowed (a : Answer) (o : List ℕ) : Type 0 where
-    pub answer-is : a ≡ (layoutBlocks forward reorder s d).answer
-    pub lent_is : o ≡ (layoutBlocks forward reorder s d).lent
+    pub answer_is : a ≡ (layout_blocks forward reorder s d).answer
+    pub lent_is : o ≡ (layout_blocks forward reorder s d).lent
 
   -- "any two outcomes allowed are equal"
   pub determined : (a b : Answer) (o p : List ℕ) → Allowed a o → Allowed b p → (a ≡ b) × (o ≡ p)
-  determined a b o p x y = (x.answer-is ∙ sym y.answer-is, x.lent_is ∙ sym y.lent_is)
+  determined a b o p x y = (x.answer_is ∙ sym y.answer_is, x.lent_is ∙ sym y.lent_is)
 
   abbrev g : Graph
   g = graph_of (records s)
@@ -36,7 +36,7 @@ module _ (forward reorder : Bool) (s d : List ℕ) where
   places = layout forward reorder g
 
   abbrev bytes : List ℕ
-  bytes = laidBytes (splitOf forward reorder g) places
+  bytes = laid_bytes (split_of forward reorder g) places
 
   -- refused: the lent bytes are as they were
   pub record Refused (a : Answer) (o : List ℕ) : Type 0 where
@@ -52,47 +52,47 @@ module _ (forward reorder : Bool) (s d : List ℕ) where
     pub answer : a ≡ laid forward reorder g places (length bytes)
     pub demands : Demands g forward reorder
 
-  is-refused : (a : Answer) (o : List ℕ) → Allowed a o → (n p k : ℕ) → (n ≡ 0 → ⊥) → layoutBlocks forward reorder s d ≡ refused n p k d → Refused a o
+  is_refused : (a : Answer) (o : List ℕ) → Allowed a o → (n p k : ℕ) → (n ≡ 0 → ⊥) → layout_blocks forward reorder s d ≡ refused n p k d → Refused a o
   unfolding refused refusal
-  is-refused a o h n p k z e =
-      let q : a ≡ refusal n p k = h.answer-is ∙ ap (λ (x : Outcome). x.answer) e in
+  is_refused a o h n p k z e =
+      let q : a ≡ refusal n p k = h.answer_is ∙ ap (λ (x : Outcome). x.answer) e in
       record {
         number = λ y. z (sym (ap (λ (x : Answer). x.refusal) q) ∙ y);
         kept = h.lent_is ∙ ap (λ (x : Outcome). x.lent) e;
         nothing = (ap (λ (x : Answer). x.written) q, ap (λ (x : Answer). x.blocks) q, ap (λ (x : Answer). x.bridges) q, ap (λ (x : Answer). x.moved) q, ap (λ (x : Answer). x.split) q);
       }
 
-  not-read : eqb (verdict s).number 0 ≡ false → layoutBlocks forward reorder s d ≡ refused (verdict s).number (verdict s).place 0 d
-  unfolding layoutBlocks
-  not-read e = rw (e, layoutBlocks) refl
+  not_read : eqb (verdict s).number 0 ≡ false → layout_blocks forward reorder s d ≡ refused (verdict s).number (verdict s).place 0 d
+  unfolding layout_blocks
+  not_read e = rw (e, layout_blocks) refl
 
-  read : eqb (verdict s).number 0 ≡ true → layoutBlocks forward reorder s d ≡ layout_of forward reorder g d
-  unfolding layoutBlocks
-  read e = rw (e, layoutBlocks) refl
+  read : eqb (verdict s).number 0 ≡ true → layout_blocks forward reorder s d ≡ layout_of forward reorder g d
+  unfolding layout_blocks
+  read e = rw (e, layout_blocks) refl
 
-  no_room : eqb (verdict s).number 0 ≡ true → ltb (length d) (length bytes) ≡ true → layoutBlocks forward reorder s d ≡ refused 10 0 (length bytes) d
+  no_room : eqb (verdict s).number 0 ≡ true → ltb (length d) (length bytes) ≡ true → layout_blocks forward reorder s d ≡ refused 10 0 (length bytes) d
   unfolding layout_of
   no_room e f = read e ∙ rw (f, layout_of) refl
 
-  is-laid : (a : Answer) (o : List ℕ) → Allowed a o → eqb (verdict s).number 0 ≡ true → ltb (length d) (length bytes) ≡ false → Laid a o
+  is_laid : (a : Answer) (o : List ℕ) → Allowed a o → eqb (verdict s).number 0 ≡ true → ltb (length d) (length bytes) ≡ false → Laid a o
   unfolding layout_of
-  is-laid a o h e f =
-      let q : layoutBlocks forward reorder s d ≡ record { answer = laid forward reorder g places (length bytes); lent = bytes ++ drop (length bytes) d } = read e ∙ rw (f, layout_of) refl in
+  is_laid a o h e f =
+      let q : layout_blocks forward reorder s d ≡ record { answer = laid forward reorder g places (length bytes); lent = bytes ++ drop (length bytes) d } = read e ∙ rw (f, layout_of) refl in
       record {
         accepted = eqb-true (verdict s).number 0 e;
         lent = h.lent_is ∙ ap (λ (x : Outcome). x.lent) q;
-        answer = h.answer-is ∙ ap (λ (x : Outcome). x.answer) q;
-        demands = accepted-demands s (eqb-true (verdict s).number 0 e) forward reorder;
+        answer = h.answer_is ∙ ap (λ (x : Outcome). x.answer) q;
+        demands = accepted_demands s (eqb-true (verdict s).number 0 e) forward reorder;
       }
 
   -- THE THEOREM: a call has refused, or it has laid
-  pub refused-or-laid : (a : Answer) (o : List ℕ) → Allowed a o → Refused a o ⊎ Laid a o
-  refused-or-laid a o h = go (eqb (verdict s).number 0) refl (ltb (length d) (length bytes)) refl
+  pub refused_or_laid : (a : Answer) (o : List ℕ) → Allowed a o → Refused a o ⊎ Laid a o
+  refused_or_laid a o h = go (eqb (verdict s).number 0) refl (ltb (length d) (length bytes)) refl
     where
-      bad : (n p k : ℕ) → (n ≡ 0 → ⊥) → layoutBlocks forward reorder s d ≡ refused n p k d → Refused a o ⊎ Laid a o
-      bad n p k z e = inl (is-refused a o h n p k z e)
+      bad : (n p k : ℕ) → (n ≡ 0 → ⊥) → layout_blocks forward reorder s d ≡ refused n p k d → Refused a o ⊎ Laid a o
+      bad n p k z e = inl (is_refused a o h n p k z e)
 
       go : (c : Bool) → eqb (verdict s).number 0 ≡ c → (b : Bool) → ltb (length d) (length bytes) ≡ b → Refused a o ⊎ Laid a o
-      go false e b f = bad (verdict s).number (verdict s).place 0 (eqb-false (verdict s).number 0 e) (not-read e)
+      go false e b f = bad (verdict s).number (verdict s).place 0 (eqb-false (verdict s).number 0 e) (not_read e)
       go true e true f = bad 10 0 (length bytes) (λ z. omega (arith, z)) (no_room e f)
-      go true e false f = inr (is-laid a o h e f)
+      go true e false f = inr (is_laid a o h e f)

@@ -1,11 +1,11 @@
 -- What the calls answer once a graph is in tables, and what they write.
 use Rattle.std.specs.Prelude.{ℕ, ◌<◌, ◌≡◌, Bool, cond, List, ◌++◌, ltb, length, drop}
-use Rattle.limits.specs.Limits.{numbers, mostArms, marksBelow}
+use Rattle.limits.specs.Limits.{numbers, most_arms, marks_below}
 use Rattle.rules.specs.declared.Answer.{Answer}
 use Rattle.rules.specs.Graph as graph
 use Rattle.rules.specs.Forward.{moves}
-use Rattle.rules.specs.Exits.{Place, bridges, laidGraph}
-use Rattle.rules.specs.Laid.{laidBytes}
+use Rattle.rules.specs.Exits.{Place, bridges, laid_graph}
+use Rattle.rules.specs.Laid.{laid_bytes}
 use Rattle.rules.specs.Outcome.{Outcome, refused}
 use Rattle.rules.proofs.Membership.{In}
 use Rattle.rules.proofs.Wholeness.{Whole}
@@ -16,39 +16,39 @@ use Rattle.records.specs.declared.Graph.{Graph}
 use Rattle.records.specs.Tables.{tabled, Apart, Stands}
 use Rattle.forwarding.specs.Forwards as forwarding
 use Rattle.layout.specs.declared.blocks.Placed.{Placed}
-use Rattle.layout.specs.Blocks.{places_by, splitBy, Over, Ready, PlacedOf}
+use Rattle.layout.specs.Blocks.{places_by, split_by, Over, Ready, PlacedOf}
 
 -- ---- forwarding, if it is asked for
 
 -- with the tables changed to these, every t that has the others stands for what is asked of its graph
 abbrev pub ForwardsIf : Bool → List ℕ → List ℕ → List ℕ → List ℕ → List ℕ → List ℕ → List ℕ → List ℕ → ℕ → List ℕ → List ℕ → List ℕ → List ℕ → ℕ → Type 0
 ForwardsIf on listed marks ends weight first count to args n marks' weight' count' to' moved =
-    (t : Graph) → forwarding.Over t listed marks ends weight first count to args n → Stands numbers mostArms t (tabled t) → Whole (tabled t) → Apart t
-    → Stands numbers mostArms (forwarding.changed t marks' weight' count' to') (asked on (tabled t)) × (moved ≡ cond on (moves (tabled t)) 0)
+    (t : Graph) → forwarding.Over t listed marks ends weight first count to args n → Stands numbers most_arms t (tabled t) → Whole (tabled t) → Apart t
+    → Stands numbers most_arms (forwarding.changed t marks' weight' count' to') (asked on (tabled t)) × (moved ≡ cond on (moves (tabled t)) 0)
 
 -- ---- what is laid
 
 -- the answer of a layout
-unfoldable pub laidOut : ℕ → ℕ → ℕ → ℕ → ℕ → Answer
-laidOut bytes blocks bridges moved split =
+unfoldable pub laid_out : ℕ → ℕ → ℕ → ℕ → ℕ → Answer
+laid_out bytes blocks bridges moved split =
     record { refusal = 0; place = 0; needed = 0; written = bytes; blocks = blocks; bridges = bridges; moved = moved; split = split }
 
 -- a graph laid and written, of which so many arms had moved before
-unfoldable pub outcomeBy : Bool → graph.Graph → ℕ → List ℕ → Outcome
-outcomeBy reorder g moved lent =
+unfoldable pub outcome_by : Bool → graph.Graph → ℕ → List ℕ → Outcome
+outcome_by reorder g moved lent =
     let l = places_by reorder g in
-    let out = laidBytes (splitBy reorder g) l in
+    let out = laid_bytes (split_by reorder g) l in
     let n = length out in
-    cond (ltb (length lent) n) (refused 10 0 n lent) (record { answer = laidOut n (length g) (bridges l) moved (splitBy reorder g); lent = out ++ drop n lent })
+    cond (ltb (length lent) n) (refused 10 0 n lent) (record { answer = laid_out n (length g) (bridges l) moved (split_by reorder g); lent = out ++ drop n lent })
 
 -- that is the answer, and what the lent bytes are in the end
 abbrev pub Makes : Bool → graph.Graph → ℕ → List ℕ → List ℕ → Answer → Type 0
-Makes reorder g moved before after r = (r ≡ (outcomeBy reorder g moved before).answer) × (after ≡ (outcomeBy reorder g moved before).lent)
+Makes reorder g moved before after r = (r ≡ (outcome_by reorder g moved before).answer) × (after ≡ (outcome_by reorder g moved before).lent)
 
 -- what is laid of a graph has arms to blocks of its own, and marks that leave room for the heads'
 pub record Fit (reorder : Bool) (g : graph.Graph) : Type 0 where
-  pub whole : Whole (laidGraph (places_by reorder g))
-  pub low : (p : Place) → In p (places_by reorder g) → p.block.marks < marksBelow
+  pub whole : Whole (laid_graph (places_by reorder g))
+  pub low : (p : Place) → In p (places_by reorder g) → p.block.marks < marks_below
 
 -- some t that can be laid and written has these tables
 pub record Layable (reorder : Bool) (listed marks ends weight : List ℕ) (a : Arms) (n : ℕ) : Type 0 where

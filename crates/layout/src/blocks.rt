@@ -1,10 +1,10 @@
 // The passes from a graph in tables to its places.
 ghost use Rattle.std.specs.Prelude.{◌≡◌, ◌<◌, length, get_or};
 ghost use Rattle.limits.specs.Limits.{blocks};
-ghost use Rattle.records.specs.Tables.{blockTables, armTables};
+ghost use Rattle.records.specs.Tables.{block_tables, arm_tables};
 ghost use Rattle.traces.specs.Rounds.{Lent};
 ghost use Rattle.exits.specs.Lays.{Unlaid};
-ghost use Rattle.layout.specs.Blocks.{splitAt, OrderedBy, Placeable, Places};
+ghost use Rattle.layout.specs.Blocks.{split_at, OrderedBy, Placeable, Places};
 
 use exits::Counts;
 use limits::{ARMS, BLOCKS};
@@ -20,7 +20,7 @@ pub struct Placed {
 // The place where the block at `split` of the order is laid; BLOCKS where there is no such block.
 fn split_place<'a>(place: &'a [u16; BLOCKS], order: &'a [u16; BLOCKS], split: usize) -> usize
     requires { (length place.now ≡ blocks) × (length order.now ≡ blocks) × (split < blocks → 0 < get_or place.now (get_or order.now split 0) 0) }
-    ensures { result ≡ splitAt place.now order.now split }
+    ensures { result ≡ split_at place.now order.now split }
 {
     if BLOCKS <= split {
         return BLOCKS;
@@ -71,9 +71,9 @@ pub fn blocks<'a>(
     args: &mut [u8; ARMS],
     heft: &mut [u64; ARMS],
 ) -> Placed
-    requires placeable { Placeable olisted.now marks.old ends.old weight.old (armTables ofirst.now ocount.now oto.now oargs.now oheft.now) n }
-    requires unlaid { Unlaid listed.old place.old exits.old (armTables first.old count.old to.old args.old heft.old) }
-    ensures { Places reorder olisted.now marks.old ends.old weight.old (armTables ofirst.now ocount.now oto.now oargs.now oheft.now) n (blockTables place.new listed.new marks.new ends.new weight.new) (armTables first.new count.new to.new args.new heft.new) exits.new result }
+    requires placeable { Placeable olisted.now marks.old ends.old weight.old (arm_tables ofirst.now ocount.now oto.now oargs.now oheft.now) n }
+    requires unlaid { Unlaid listed.old place.old exits.old (arm_tables first.old count.old to.old args.old heft.old) }
+    ensures { Places reorder olisted.now marks.old ends.old weight.old (arm_tables ofirst.now ocount.now oto.now oargs.now oheft.now) n (block_tables place.new listed.new marks.new ends.new weight.new) (arm_tables first.new count.new to.new args.new heft.new) exits.new result }
 {
     cold::spread(olisted, ofirst, ocount, oto, n, marks);
     let o = ordered(

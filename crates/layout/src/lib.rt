@@ -1,13 +1,15 @@
 // The public calls, for C and Rust to link (include/layout.h). Each tests its input itself, asks nothing of its caller, and
 // answers what `rules` says in Outcome, for all bytes and all lent lengths.
+#![tactic(auto)]
+
 pub mod blocks;
 
 ghost use Rattle.std.specs.Prelude.{◌≡◌};
-ghost use Rattle.rules.specs.Outcome.{refusal, writtenBack, writeBack, layoutBlocks};
-ghost use Rattle.records.specs.Tables.{blockTables, armTables, noBlocks, noArms};
+ghost use Rattle.rules.specs.Outcome.{refusal, written_back, write_back, layout_blocks};
+ghost use Rattle.records.specs.Tables.{block_tables, arm_tables, no_blocks, no_arms};
 ghost use Rattle.forwarding.specs.Forwards.{Forwardable};
 ghost use Rattle.exits.specs.Lays.{Unlaid};
-ghost use Rattle.layout.specs.Outcomes.{ForwardsIf, laidOut, Layable, LaysOut, Writable, Writes};
+ghost use Rattle.layout.specs.Outcomes.{ForwardsIf, laid_out, Layable, LaysOut, Writable, Writes};
 
 use blocks::Placed;
 use limits::{ARMS, BLOCKS, NO_SPLIT, RECORD};
@@ -31,7 +33,7 @@ fn refuse(number: u64, place: u64, needed: u64) -> Answer
 
 // What is written back has no bridges, no moves and no split.
 fn written_back(written: u64, blocks: u64) -> Answer
-    ensures { result ≡ writtenBack written blocks }
+    ensures { result ≡ written_back written blocks }
 {
     Answer {
         refusal: 0,
@@ -47,7 +49,7 @@ fn written_back(written: u64, blocks: u64) -> Answer
 
 // What is laid: the bytes and the blocks, the bridges that were made, the arms that were moved, and where the cold part begins.
 fn laid_out(written: u64, blocks: u64, bridges: u64, moved: u64, split: u64) -> Answer
-    ensures { result ≡ laidOut written blocks bridges moved split }
+    ensures { result ≡ laid_out written blocks bridges moved split }
 {
     Answer {
         refusal: 0,
@@ -98,9 +100,9 @@ fn write_back(
     heft: &mut [u64; ARMS],
     out: &mut [u8],
 ) -> Answer
-    requires { (blockTables place.old listed.old marks.old ends.old weight.old ≡ noBlocks) × (armTables first.old count.old to.old args.old heft.old ≡ noArms) }
-    ensures value { result ≡ (writeBack input.now out.old).answer }
-    ensures out_after { out.new ≡ (writeBack input.now out.old).lent }
+    requires { (block_tables place.old listed.old marks.old ends.old weight.old ≡ no_blocks) × (arm_tables first.old count.old to.old args.old heft.old ≡ no_arms) }
+    ensures value { result ≡ (write_back input.now out.old).answer }
+    ensures out_after { out.new ≡ (write_back input.now out.old).lent }
 {
     let r = reader::read(
         input, place, listed, marks, ends, weight, first, count, to, args, heft,
@@ -122,8 +124,8 @@ fn write_back(
 // Reads the records of `input` and writes them back to the front of `out`. A refusal (1 to 10) changes no byte of `out`.
 #[unsafe(no_mangle)]
 pub extern "C" fn layout_write_back(input: &[u8], out: &mut [u8]) -> Answer
-    ensures value { result ≡ (writeBack input.now out.old).answer }
-    ensures out_after { out.new ≡ (writeBack input.now out.old).lent }
+    ensures value { result ≡ (write_back input.now out.old).answer }
+    ensures out_after { out.new ≡ (write_back input.now out.old).lent }
 {
     let mut place: [u16; BLOCKS] = [0; BLOCKS];
     let mut listed: [u16; BLOCKS] = [0; BLOCKS];
@@ -169,8 +171,8 @@ fn write_laid<'a>(
     moved: usize,
     out: &mut [u8],
 ) -> Answer
-    requires { Writable (blockTables place.now listed.now marks.now ends.now weight.now) (armTables first.now count.now to.now args.now heft.now) exits.now p }
-    ensures { Writes (blockTables place.now listed.now marks.now ends.now weight.now) (armTables first.now count.now to.now args.now heft.now) exits.now p n moved out.old out.new result }
+    requires { Writable (block_tables place.now listed.now marks.now ends.now weight.now) (arm_tables first.now count.now to.now args.now heft.now) exits.now p }
+    ensures { Writes (block_tables place.now listed.now marks.now ends.now weight.now) (arm_tables first.now count.now to.now args.now heft.now) exits.now p n moved out.old out.new result }
 {
     let l = p.laid;
     let k = l.places;
@@ -215,9 +217,9 @@ fn lay_into<'a>(
     heft: &mut [u64; ARMS],
     out: &mut [u8],
 ) -> Answer
-    requires layable { Layable reorder olisted.now marks.old ends.old weight.old (armTables ofirst.now ocount.now oto.now oargs.now oheft.now) n }
-    requires unlaid { Unlaid listed.old place.old exits.old (armTables first.old count.old to.old args.old heft.old) }
-    ensures { LaysOut reorder olisted.now marks.old ends.old weight.old (armTables ofirst.now ocount.now oto.now oargs.now oheft.now) n moved out.old out.new result }
+    requires layable { Layable reorder olisted.now marks.old ends.old weight.old (arm_tables ofirst.now ocount.now oto.now oargs.now oheft.now) n }
+    requires unlaid { Unlaid listed.old place.old exits.old (arm_tables first.old count.old to.old args.old heft.old) }
+    ensures { LaysOut reorder olisted.now marks.old ends.old weight.old (arm_tables ofirst.now ocount.now oto.now oargs.now oheft.now) n moved out.old out.new result }
 {
     let p = blocks::blocks(
         reorder, olisted, ofirst, ocount, oto, oargs, oheft, n, listed, place, marks, ends, weight,
@@ -244,8 +246,8 @@ fn lay_out<'a>(
     weight: &mut [u64; BLOCKS],
     out: &mut [u8],
 ) -> Answer
-    requires { Layable reorder olisted.now marks.old ends.old weight.old (armTables ofirst.now ocount.now oto.now oargs.now oheft.now) n }
-    ensures { LaysOut reorder olisted.now marks.old ends.old weight.old (armTables ofirst.now ocount.now oto.now oargs.now oheft.now) n moved out.old out.new result }
+    requires { Layable reorder olisted.now marks.old ends.old weight.old (arm_tables ofirst.now ocount.now oto.now oargs.now oheft.now) n }
+    ensures { LaysOut reorder olisted.now marks.old ends.old weight.old (arm_tables ofirst.now ocount.now oto.now oargs.now oheft.now) n moved out.old out.new result }
 {
     let mut listed: [u16; BLOCKS] = [0; BLOCKS];
     let mut place: [u16; BLOCKS] = [0; BLOCKS];
@@ -297,9 +299,9 @@ fn lay_file(
     heft: &mut [u64; ARMS],
     out: &mut [u8],
 ) -> Answer
-    requires { (blockTables place.old listed.old marks.old ends.old weight.old ≡ noBlocks) × (armTables first.old count.old to.old args.old heft.old ≡ noArms) }
-    ensures value { result ≡ (layoutBlocks on reorder input.now out.old).answer }
-    ensures out_after { out.new ≡ (layoutBlocks on reorder input.now out.old).lent }
+    requires { (block_tables place.old listed.old marks.old ends.old weight.old ≡ no_blocks) × (arm_tables first.old count.old to.old args.old heft.old ≡ no_arms) }
+    ensures value { result ≡ (layout_blocks on reorder input.now out.old).answer }
+    ensures out_after { out.new ≡ (layout_blocks on reorder input.now out.old).lent }
 {
     let r = reader::read(
         input, place, listed, marks, ends, weight, first, count, to, args, heft,
@@ -324,8 +326,8 @@ pub extern "C" fn layout_blocks(
     reorder: bool,
     out: &mut [u8],
 ) -> Answer
-    ensures value { result ≡ (layoutBlocks forward reorder input.now out.old).answer }
-    ensures out_after { out.new ≡ (layoutBlocks forward reorder input.now out.old).lent }
+    ensures value { result ≡ (layout_blocks forward reorder input.now out.old).answer }
+    ensures out_after { out.new ≡ (layout_blocks forward reorder input.now out.old).lent }
 {
     let mut place: [u16; BLOCKS] = [0; BLOCKS];
     let mut listed: [u16; BLOCKS] = [0; BLOCKS];

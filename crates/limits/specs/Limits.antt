@@ -6,24 +6,24 @@ abbrev pub size : ℕ
 size = 16
 
 -- a file is at most this long
-abbrev pub mostBytes : ℕ
-mostBytes = 8192
+abbrev pub most_bytes : ℕ
+most_bytes = 8192
 
 -- blocks are numbered below this
 abbrev pub numbers : ℕ
 numbers = 128
 
 -- a file has at most this many arms
-abbrev pub mostArms : ℕ
-mostArms = 384
+abbrev pub most_arms : ℕ
+most_arms = 384
 
 -- the marks of an input block are below this: bit 7 is zero
-abbrev pub marksBelow : ℕ
-marksBelow = 128
+abbrev pub marks_below : ℕ
+marks_below = 128
 
 -- ends are below this
-abbrev pub endsBelow : ℕ
-endsBelow = 7
+abbrev pub ends_below : ℕ
+ends_below = 7
 
 -- tables by block number have this much room
 abbrev pub blocks : ℕ
@@ -34,18 +34,18 @@ abbrev pub arms : ℕ
 arms = 512
 
 -- the split place that says that there is none
-abbrev pub noSplit : ℕ
-noSplit = 256
+abbrev pub no_split : ℕ
+no_split = 256
 
 -- a line of the listing has at most this many bytes: four letters, three numbers of three digits, a weight of twenty, and what stands
 -- behind each
-abbrev pub lineRoom : ℕ
-lineRoom = 41
+abbrev pub line_room : ℕ
+line_room = 41
 
 -- its last line has at most this many
-abbrev pub lastRoom : ℕ
-lastRoom = 27
+abbrev pub last_room : ℕ
+last_room = 27
 
 -- the listing has at most this many
-abbrev pub textRoom : ℕ
-textRoom = blocks * lineRoom + lastRoom
+abbrev pub text_room : ℕ
+text_room = blocks * line_room + last_room

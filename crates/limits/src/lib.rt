@@ -1,4 +1,6 @@
 // Every limit of document 01, once for the code; specs/Limits.antt has the same names for the definitions.
+#![tactic(auto)]
+
 // How many bytes a record has.
 pub const RECORD: usize = 16;
 

@@ -1,8 +1,10 @@
 // The text that `blocklist` prints of a file: read, forwarded, reordered, laid and listed; or the line of its refusal.
+#![tactic(auto)]
+
 ghost use Rattle.std.specs.Prelude.{◌≡◌, ◌≤◌, true, length};
-ghost use Rattle.limits.specs.Limits.{textRoom};
+ghost use Rattle.limits.specs.Limits.{text_room};
 ghost use Rattle.rules.specs.Listing.{blocklist};
-ghost use Rattle.records.specs.Tables.{blockTables, armTables, noBlocks, noArms};
+ghost use Rattle.records.specs.Tables.{block_tables, arm_tables, no_blocks, no_arms};
 ghost use Rattle.exits.specs.Lays.{Unlaid};
 ghost use Rattle.layout.specs.Outcomes.{Layable};
 ghost use Rattle.listing.specs.Lines.{Printed};
@@ -25,7 +27,7 @@ fn list_laid<'a>(
     out: &mut [u8],
 ) -> usize
     requires listable { Listable listed.now place.now marks.now weight.now first.now count.now exits.now to.now p }
-    requires text_room_in_bounds { textRoom ≤ length out.old }
+    requires text_room_in_bounds { text_room ≤ length out.old }
     ensures { ListsLaid listed.now place.now marks.now weight.now first.now count.now exits.now to.now p out.old out.new result }
 {
     let l = p.laid;
@@ -60,9 +62,9 @@ fn list_into<'a>(
     heft: &mut [u64; ARMS],
     out: &mut [u8],
 ) -> usize
-    requires layable { Layable true olisted.now marks.old ends.old weight.old (armTables ofirst.now ocount.now oto.now oargs.now oheft.now) n }
-    requires unlaid { Unlaid listed.old place.old exits.old (armTables first.old count.old to.old args.old heft.old) × (textRoom ≤ length out.old) }
-    ensures { ListsOut olisted.now marks.old ends.old weight.old (armTables ofirst.now ocount.now oto.now oargs.now oheft.now) n out.old out.new result }
+    requires layable { Layable true olisted.now marks.old ends.old weight.old (arm_tables ofirst.now ocount.now oto.now oargs.now oheft.now) n }
+    requires unlaid { Unlaid listed.old place.old exits.old (arm_tables first.old count.old to.old args.old heft.old) × (text_room ≤ length out.old) }
+    ensures { ListsOut olisted.now marks.old ends.old weight.old (arm_tables ofirst.now ocount.now oto.now oargs.now oheft.now) n out.old out.new result }
 {
     let p = layout::blocks::blocks(
         true, olisted, ofirst, ocount, oto, oargs, oheft, n, listed, place, marks, ends, weight,
@@ -87,9 +89,9 @@ fn list_out<'a>(
     weight: &mut [u64; BLOCKS],
     out: &mut [u8],
 ) -> usize
-    requires layable { Layable true olisted.now marks.old ends.old weight.old (armTables ofirst.now ocount.now oto.now oargs.now oheft.now) n }
-    requires text_room_in_bounds { textRoom ≤ length out.old }
-    ensures { ListsOut olisted.now marks.old ends.old weight.old (armTables ofirst.now ocount.now oto.now oargs.now oheft.now) n out.old out.new result }
+    requires layable { Layable true olisted.now marks.old ends.old weight.old (arm_tables ofirst.now ocount.now oto.now oargs.now oheft.now) n }
+    requires text_room_in_bounds { text_room ≤ length out.old }
+    ensures { ListsOut olisted.now marks.old ends.old weight.old (arm_tables ofirst.now ocount.now oto.now oargs.now oheft.now) n out.old out.new result }
 {
     let mut listed: [u16; BLOCKS] = [0; BLOCKS];
     let mut place: [u16; BLOCKS] = [0; BLOCKS];
@@ -137,8 +139,8 @@ fn list_file(
     heft: &mut [u64; ARMS],
     out: &mut [u8],
 ) -> usize
-    requires weight_value { (blockTables place.old listed.old marks.old ends.old weight.old ≡ noBlocks) × (armTables first.old count.old to.old args.old heft.old ≡ noArms) }
-    requires text_room_in_bounds { textRoom ≤ length out.old }
+    requires weight_value { (block_tables place.old listed.old marks.old ends.old weight.old ≡ no_blocks) × (arm_tables first.old count.old to.old args.old heft.old ≡ no_arms) }
+    requires text_room_in_bounds { text_room ≤ length out.old }
     ensures { Printed (blocklist input.now) out.old out.new result }
 {
     let r = reader::read(
@@ -157,7 +159,7 @@ fn list_file(
 
 // The text of a file, at the front of the room; the rest stays.
 pub fn list(input: &[u8], out: &mut [u8]) -> usize
-    requires { textRoom ≤ length out.old }
+    requires { text_room ≤ length out.old }
     ensures { Printed (blocklist input.now) out.old out.new result }
 {
     let mut place: [u16; BLOCKS] = [0; BLOCKS];

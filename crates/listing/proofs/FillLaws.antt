@@ -8,7 +8,7 @@ use lib.Seq.{set_split, take-set-le, drop_at, length-take-le}
 use Rattle.lists.specs.Behind.{behind}
 use Rattle.rules.specs.Listing.{decimal}
 use Rattle.listing.specs.Put.{Put}
-use Rattle.listing.proofs.DigitLaws.{tens, lows, decimal-lows}
+use Rattle.listing.proofs.DigitLaws.{tens, lows, decimal_lows}
 
 -- the digits of n from place i on are in o, which was d; `rest` has those before
 pub record Filling (d : List ℕ) (at end n : ℕ) (o : List ℕ) (i rest : ℕ) : Type 0 where
@@ -25,18 +25,18 @@ module _ (d : List ℕ) (at end n : ℕ) (ends : end ≡ at + length (decimal n)
     upto = omega arith;
     long = refl;
     front = refl;
-    back = ap (λ (s : List ℕ). s ++ drop end d) (sym (decimal-lows (end - at) n h (omega (arith, ends))));
+    back = ap (λ (s : List ℕ). s ++ drop end d) (sym (decimal_lows (end - at) n h (omega (arith, ends))));
   }
 
   pub fill_step : (o : List ℕ) (i rest v : ℕ) → end ≤ length d → at < i → v ≡ 48 + rest % 10 → Filling d at end n o i rest → Filling d at end n (set o (i - 1) v) (i - 1) (rest / 10)
   unfolding lows
   fill_step o i rest v room h e f =
       let j = i - 1 in
-      let in-o : j < length o = omega (arith, room, h, f.upto, f.long) in
+      let in_o : j < length o = omega (arith, room, h, f.upto, f.long) in
       let up : suc j ≡ i = omega (arith, h) in
       let more : suc (j - at) ≡ i - at = omega (arith, h) in
       let last : drop j (set o j v) ≡ v ∷ drop i o =
-      ap (drop j) (set_split o j v in-o) ∙ drop_at (take j o) (v ∷ drop (suc j) o) j (length-take-le j o (omega (arith, in-o))) ∙ ap (λ (k : ℕ). v ∷ drop k o) up in
+      ap (drop j) (set_split o j v in_o) ∙ drop_at (take j o) (v ∷ drop (suc j) o) j (length-take-le j o (omega (arith, in_o))) ∙ ap (λ (k : ℕ). v ∷ drop k o) up in
       record {
         past = omega (arith, h);
         upto = omega (arith, f.upto);

@@ -7,13 +7,13 @@ use mathlib.Core.List.{List, [], ◌∷◌, ◌++◌, append_assoc}
 use lib.ListN.{length, set, take, drop, length-append}
 use lib.Seq.{set_split, append_snoc, length-take-le, take-length, paste}
 use Rattle.lists.specs.Behind.{behind}
-use Rattle.lists.proofs.Parts.{behind-front}
+use Rattle.lists.proofs.Parts.{behind_front}
 use Rattle.listing.specs.Put.{Put}
 use Rattle.listing.specs.Lines.{Printed}
 
-pub put-none : (d : List ℕ) → Put 0 [] d d 0
+pub put_none : (d : List ℕ) → Put 0 [] d d 0
 unfolding behind
-put-none d = record { bytes = refl; ends = refl }
+put_none d = record { bytes = refl; ends = refl }
 
 pub put_one : (d : List ℕ) (at b : ℕ) → at < length d → Put at (b ∷ []) d (set d at b) (at + 1)
 unfolding behind
@@ -39,7 +39,7 @@ put_then {at} {r} {q} {s} {t} {d} {o} {p} h x y =
     let whole : length ((take at d ++ s) ++ t) ≡ at + length (s ++ t) = omega (arith, length-append (take at d ++ s) t, length-append s t, front, x.ends) in
     record {
       bytes =
-          y.bytes ∙ ap (behind r t) before ∙ behind-front (take at d ++ s) t d r front
+          y.bytes ∙ ap (behind r t) before ∙ behind_front (take at d ++ s) t d r front
           ∙ ap (λ (k : ℕ). ((take at d ++ s) ++ t) ++ drop k d) whole
           ∙ ap (λ (l : List ℕ). l ++ drop (at + length (s ++ t)) d) (append_assoc (take at d) s t);
       ends = omega (arith, x.ends, y.ends, length-append s t);
@@ -49,12 +49,12 @@ put_then {at} {r} {q} {s} {t} {d} {o} {p} h x y =
 pub put_front : {text d o : List ℕ} {r : ℕ} → Put 0 text d o r → Printed text d o r
 unfolding behind
 put_front {text} {d} p = record {
-  bytes = p.bytes ∙ ap (λ (k : ℕ). text ++ drop k d) (zero-plus (length text));
-  ends = p.ends ∙ zero-plus (length text);
+  bytes = p.bytes ∙ ap (λ (k : ℕ). text ++ drop k d) (zero_plus (length text));
+  ends = p.ends ∙ zero_plus (length text);
 }
   where
-    zero-plus : (k : ℕ) → 0 + k ≡ k
-    zero-plus k = omega arith
+    zero_plus : (k : ℕ) → 0 + k ≡ k
+    zero_plus k = omega arith
 
 -- the same text, said otherwise
 pub put_same : {at r : ℕ} {s t d o : List ℕ} → s ≡ t → Put at s d o r → Put at t d o r

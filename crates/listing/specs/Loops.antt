@@ -7,11 +7,11 @@ use Rattle.records.specs.Tables.{tabled}
 use Rattle.cycles.specs.Pieces.{PiecesOf}
 
 -- one of the first i listed blocks is another block of block m's piece
-unfoldable pub mateTo : List ℕ → List ℕ → ℕ → ℕ → Bool
-mateTo listed piece zero m = false
-mateTo listed piece (suc i) m =
+unfoldable pub mate_to : List ℕ → List ℕ → ℕ → ℕ → Bool
+mate_to listed piece zero m = false
+mate_to listed piece (suc i) m =
     let k = get_or listed i 0 in
-    mateTo listed piece i m || (not (eqb k m) && eqb (get_or piece k 0) (get_or piece m 0))
+    mate_to listed piece i m || (not (eqb k m) && eqb (get_or piece k 0) (get_or piece m 0))
 
 -- of every t that lists these blocks and whose graph has these pieces: the set has its blocks in loops
 pub record LoopsOf (listed piece : List ℕ) (n : ℕ) (set : List ℕ) : Type 0 where

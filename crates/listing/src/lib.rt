@@ -1,12 +1,14 @@
 // The listing: a line for each place of a laid graph, and where its cold part starts. A refusal has one line.
+#![tactic(auto)]
+
 pub mod text;
 
 ghost use Rattle.std.specs.Prelude.{◌≡◌, ℕ, ◌+◌, ◌*◌, ◌≤◌, ◌<◌, length, get_or};
-ghost use Rattle.limits.specs.Limits.{blocks, lineRoom, textRoom};
-ghost use Rattle.rules.specs.Listing.{splitLine, refusalLine};
+ghost use Rattle.limits.specs.Limits.{blocks, line_room, text_room};
+ghost use Rattle.rules.specs.Listing.{split_line, refusal_line};
 ghost use Rattle.listing.specs.Put.{Put};
-ghost use Rattle.listing.specs.Lines.{frontOf, backOf, shown, linesTo, Printable, Printed, Prints};
-ghost use Rattle.listing.specs.Loops.{mateTo, LoopsOf};
+ghost use Rattle.listing.specs.Lines.{front_of, back_of, shown, lines_to, Printable, Printed, Prints};
+ghost use Rattle.listing.specs.Loops.{mate_to, LoopsOf};
 
 use limits::{BLOCKS, NO_SPLIT, NUMBERS};
 use text::{NEWLINE, SPACE};
@@ -14,7 +16,7 @@ use text::{NEWLINE, SPACE};
 // Whether another of n listed blocks is of block m's piece.
 fn has_mate<'a>(listed: &'a [u16; BLOCKS], piece: &'a [u16; BLOCKS], n: usize, m: u16) -> bool
     requires { (n ≤ blocks) × (length piece.now ≡ blocks) }
-    ensures { result ≡ mateTo listed.now piece.now n m }
+    ensures { result ≡ mate_to listed.now piece.now n m }
 {
     let own = lists::entry_of(piece, m);
     let mut i: usize = 0;
@@ -54,8 +56,8 @@ pub fn looped<'a>(
 
 // The front of a line: a place and its block. Bridges are numbered past the blocks.
 fn put_block(out: &mut [u8], at: usize, place: usize, number: u16, weight: u64) -> usize
-    requires { at + length (frontOf place number weight) ≤ length out.old }
-    ensures { Put at (frontOf place number weight) out.old out.new result }
+    requires { at + length (front_of place number weight) ≤ length out.old }
+    ensures { Put at (front_of place number weight) out.old out.new result }
 {
     let after_place = text::put_number(out, at, place as u64, SPACE);
     let after_kind = text::put_letter(out, after_place, NUMBERS as u16 <= number, b'+', b'B');
@@ -65,8 +67,8 @@ fn put_block(out: &mut [u8], at: usize, place: usize, number: u16, weight: u64) 
 
 // The back of it: how the block is laid.
 fn put_laid(out: &mut [u8], at: usize, marks: u8, head: bool, in_loop: bool, exit: u8) -> usize
-    requires { at + length (backOf marks head in_loop exit) ≤ length out.old }
-    ensures { Put at (backOf marks head in_loop exit) out.old out.new result }
+    requires { at + length (back_of marks head in_loop exit) ≤ length out.old }
+    ensures { Put at (back_of marks head in_loop exit) out.old out.new result }
 {
     let after_side = text::put_letter(out, at, cold::is_cold(marks), b'C', b'W');
     let after_head = text::put_letter(out, after_side, head, b'H', b'-');
@@ -86,9 +88,9 @@ fn put_places<'a>(
     out: &mut [u8],
 ) -> usize
     requires printable { Printable (shown listed.now marks.now weight.now exits.now heads.now loops.now) n }
-    requires n_in_bounds { lineRoom * n ≤ length out.old }
-    ensures upper_bound { result ≤ lineRoom * n }
-    ensures put { Put 0 (linesTo (shown listed.now marks.now weight.now exits.now heads.now loops.now) n) out.old out.new result }
+    requires n_in_bounds { line_room * n ≤ length out.old }
+    ensures upper_bound { result ≤ line_room * n }
+    ensures put { Put 0 (lines_to (shown listed.now marks.now weight.now exits.now heads.now loops.now) n) out.old out.new result }
 {
     let mut at: usize = 0;
     let mut i: usize = 0;
@@ -110,8 +112,8 @@ fn put_places<'a>(
 
 // The last line: where the cold part starts, or that there is none.
 fn put_split(out: &mut [u8], at: usize, split: usize) -> usize
-    requires { at + length (splitLine split) ≤ length out.old }
-    ensures { Put at (splitLine split) out.old out.new result }
+    requires { at + length (split_line split) ≤ length out.old }
+    ensures { Put at (split_line split) out.old out.new result }
 {
     let next = text::put_word(out, at, b"split ");
     if split as u64 == NO_SPLIT {
@@ -133,7 +135,7 @@ pub fn write<'a>(
     out: &mut [u8],
 ) -> usize
     requires printable { Printable (shown listed.now marks.now weight.now exits.now heads.now loops.now) n }
-    requires text_room_in_bounds { textRoom ≤ length out.old }
+    requires text_room_in_bounds { text_room ≤ length out.old }
     ensures { Prints (shown listed.now marks.now weight.now exits.now heads.now loops.now) n split out.old out.new result }
 {
     let at = put_places(listed, marks, weight, exits, heads, loops, n, out);
@@ -142,8 +144,8 @@ pub fn write<'a>(
 
 // The line of a refusal, at the front of the room; the rest stays.
 pub fn refused(number: u64, place: u64, out: &mut [u8]) -> usize
-    requires { textRoom ≤ length out.old }
-    ensures { Printed (refusalLine (record { number = number; place = place })) out.old out.new result }
+    requires { text_room ≤ length out.old }
+    ensures { Printed (refusal_line (record { number = number; place = place })) out.old out.new result }
 {
     let after_word = text::put_word(out, 0, b"refused ");
     let after_number = text::put_number(out, after_word, number, SPACE);

@@ -6,21 +6,21 @@ use native.Mathlib.Omega.{arith}
 use mathlib.Core.Path.{◌≡◌, refl}
 use mathlib.Core.Bool.{Bool, true, false, cond, ◌||◌, true≢false}
 
-pub cond-elim : {X : Type 0} (P : X → Type 0) (b : Bool) (x y : X) → (b ≡ true → P x) → (b ≡ false → P y) → P (cond b x y)
-cond-elim P true x y f g = f refl
-cond-elim P false x y f g = g refl
+pub cond_elim : {X : Type 0} (P : X → Type 0) (b : Bool) (x y : X) → (b ≡ true → P x) → (b ≡ false → P y) → P (cond b x y)
+cond_elim P true x y f g = f refl
+cond_elim P false x y f g = g refl
 
-pub split-eq : {X : Type 0} (a : ℕ) → (a ≡ 0 → X) → ((a ≡ 0 → ⊥) → X) → X
-split-eq zero f g = f refl
-split-eq (suc a) f g = g (λ e. omega (arith, e))
+pub split_eq : {X : Type 0} (a : ℕ) → (a ≡ 0 → X) → ((a ≡ 0 → ⊥) → X) → X
+split_eq zero f g = f refl
+split_eq (suc a) f g = g (λ e. omega (arith, e))
 
-pub split-lt : {X : Type 0} (a b : ℕ) → (a < b → X) → (b ≤ a → X) → X
-split-lt a b f g = elim (dec_le b a) [ yes h ↦ g h | no h ↦ f (lt_of_not-le h) ]
+pub split_lt : {X : Type 0} (a b : ℕ) → (a < b → X) → (b ≤ a → X) → X
+split_lt a b f g = elim (dec_le b a) [ yes h ↦ g h | no h ↦ f (lt_of_not-le h) ]
 
-pub split-bool : {X : Type 0} (b : Bool) → (b ≡ true → X) → (b ≡ false → X) → X
-split-bool true f g = f refl
-split-bool false f g = g refl
+pub split_bool : {X : Type 0} (b : Bool) → (b ≡ true → X) → (b ≡ false → X) → X
+split_bool true f g = f refl
+split_bool false f g = g refl
 
-pub or-false : (x y : Bool) → x || y ≡ false → (x ≡ false) × (y ≡ false)
-or-false true y e = absurd (true≢false e)
-or-false false y e = (refl, e)
+pub or_false : (x y : Bool) → x || y ≡ false → (x ≡ false) × (y ≡ false)
+or_false true y e = absurd (true≢false e)
+or_false false y e = (refl, e)

@@ -7,16 +7,16 @@ use lib.ListN.{length, take, drop, length-append, length-take, length-drop, drop
 use Rattle.lists.specs.Behind.{behind}
 use lib.Seq.{take_all, take_at, drop_at, drop-drop}
 
-pub part-is : {A : Type 0} (s : List A) (a k : ℕ) → take (a + k - a) (drop a s) ≡ take k (drop a s)
-part-is s a k =
+pub part_is : {A : Type 0} (s : List A) (a k : ℕ) → take (a + k - a) (drop a s) ≡ take k (drop a s)
+part_is s a k =
     let e : a + k - a ≡ k = omega arith in
     ap (λ (n : ℕ). take n (drop a s)) e
 
 pub part_length : {A : Type 0} (s : List A) (a k : ℕ) → a + k ≤ length s → length (take (a + k - a) (drop a s)) ≡ k
 part_length s a k h = simp (length-take, length-drop) (omega arith)
 
-pub tail-is : {A : Type 0} (s : List A) (a : ℕ) → take (length s - a) (drop a s) ≡ drop a s
-tail-is s a = take_all (length s - a) (drop a s) (simp length-drop (omega arith))
+pub tail_is : {A : Type 0} (s : List A) (a : ℕ) → take (length s - a) (drop a s) ≡ drop a s
+tail_is s a = take_all (length s - a) (drop a s) (simp length-drop (omega arith))
 
 -- a list that is filled from its front: `front` is written, d was there before
 module _ {A : Type 0} (front ys d o : List A) (a k : ℕ) (at : length front ≡ a) (is : o ≡ front ++ drop a d) where
@@ -26,16 +26,16 @@ module _ {A : Type 0} (front ys d o : List A) (a k : ℕ) (at : length front ≡
       rw (is, e, take_at front (drop a d) a at, drop_at front (drop a d) a at)
       (sym (append_assoc front ys (drop k (drop a d))) ∙ ap (λ (l : List A). (front ++ ys) ++ l) (drop-drop k a d))
 
-pub fill-length : {A : Type 0} (front d o : List A) (a : ℕ) → length front ≡ a → a ≤ length d → o ≡ front ++ drop a d → length o ≡ length d
-fill-length front d o a at h is = rw is (simp (length-append, length-drop) (omega arith))
+pub fill_length : {A : Type 0} (front d o : List A) (a : ℕ) → length front ≡ a → a ≤ length d → o ≡ front ++ drop a d → length o ≡ length d
+fill_length front d o a at h is = rw is (simp (length-append, length-drop) (omega arith))
 
-pub fill-all : {A : Type 0} (front d o : List A) (a : ℕ) → length d ≡ a → o ≡ front ++ drop a d → o ≡ front
-fill-all {A} front d o a h is = is ∙ ap (λ (l : List A). front ++ l) (drop_of_length-le d {i = a} (omega arith)) ∙ append-nil front
+pub fill_all : {A : Type 0} (front d o : List A) (a : ℕ) → length d ≡ a → o ≡ front ++ drop a d → o ≡ front
+fill_all {A} front d o a h is = is ∙ ap (λ (l : List A). front ++ l) (drop_of_length-le d {i = a} (omega arith)) ∙ append-nil front
 
 -- what stands behind a front that was just written
-pub behind-front : (front ys d : List ℕ) (a : ℕ) → length front ≡ a → behind a ys (front ++ drop a d) ≡ (front ++ ys) ++ drop (length (front ++ ys)) d
+pub behind_front : (front ys d : List ℕ) (a : ℕ) → length front ≡ a → behind a ys (front ++ drop a d) ≡ (front ++ ys) ++ drop (length (front ++ ys)) d
 unfolding behind
-behind-front front ys d a at =
+behind_front front ys d a at =
     let e : a + length ys ≡ length (front ++ ys) = rw length-append (ap (λ (n : ℕ). n + length ys) (sym at)) in
     rw (take_at front (drop a d) a at)
     (ap (λ (l : List ℕ). (front ++ ys) ++ l)

@@ -1,4 +1,6 @@
 // Tables by block number, read without a bound to show; and, in proofs/, the laws on lists as tables.
+#![tactic(auto)]
+
 ghost use Rattle.std.specs.Prelude.{◌≡◌, length, get_or};
 ghost use Rattle.limits.specs.Limits.{blocks};
 

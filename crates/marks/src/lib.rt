@@ -1,4 +1,6 @@
 // A set of block numbers: which blocks are marked. Only this crate knows how a set is held.
+#![tactic(auto)]
+
 ghost use Rattle.std.specs.Prelude.{◌≡◌, false, ◌||◌, ℕ, ◌<◌, eqb, length};
 ghost use Rattle.limits.specs.Limits.{blocks};
 ghost use Rattle.marks.specs.Sets.{room, member};

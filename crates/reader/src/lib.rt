@@ -1,8 +1,10 @@
 // A file read into tables that are lent, with refusals 1 to 9 as document 01 gives them: the first record that is refused
 // ends the reading. The caller's tables are zeros before; where the file is refused nothing is said of what they hold.
+#![tactic(auto)]
+
 ghost use Rattle.std.specs.Prelude.{◌≡◌, ◌+◌, ◌*◌, ◌%◌, ◌≤◌, ◌<◌, length};
-ghost use Rattle.limits.specs.Limits.{size, mostBytes, blocks, arms};
-ghost use Rattle.records.specs.Tables.{blockTables, armTables, noBlocks, noArms, ArmsSized, ArmsWithin};
+ghost use Rattle.limits.specs.Limits.{size, most_bytes, blocks, arms};
+ghost use Rattle.records.specs.Tables.{block_tables, arm_tables, no_blocks, no_arms, ArmsSized, ArmsWithin};
 ghost use Rattle.reader.specs.Reads.{at, BlocksReadOf, ArmsAfter, PanicOf, Reads};
 
 use limits::{ARMS, BLOCKS, MOST_BYTES, RECORD};
@@ -43,8 +45,8 @@ fn read_blocks(
     ends: &mut [u8; BLOCKS],
     weight: &mut [u64; BLOCKS],
 ) -> BlocksRead
-    requires { (size * n ≤ length s.now) × (n ≤ arms) × (blockTables place.old listed.old marks.old ends.old weight.old ≡ noBlocks) }
-    ensures { BlocksReadOf s.now n (blockTables place.new listed.new marks.new ends.new weight.new) result }
+    requires { (size * n ≤ length s.now) × (n ≤ arms) × (block_tables place.old listed.old marks.old ends.old weight.old ≡ no_blocks) }
+    ensures { BlocksReadOf s.now n (block_tables place.new listed.new marks.new ends.new weight.new) result }
 {
     let mut entry: usize = 0;
     let mut i: usize = 0;
@@ -92,9 +94,9 @@ fn read_arms(
     args: &mut [u8; ARMS],
     weight: &mut [u64; ARMS],
 ) -> ArmsRead
-    requires { (size * m ≤ length t.now) × (m ≤ arms) × (length place.now ≡ blocks) × (armTables first.old count.old to.old args.old weight.old ≡ noArms) }
-    ensures arms_sized { ArmsSized (armTables first.new count.new to.new args.new weight.new) × ArmsWithin (armTables first.new count.new to.new args.new weight.new) result.at × (result.at ≤ m) }
-    ensures arms_after { ArmsAfter place.now t.now m (armTables first.new count.new to.new args.new weight.new) result }
+    requires { (size * m ≤ length t.now) × (m ≤ arms) × (length place.now ≡ blocks) × (arm_tables first.old count.old to.old args.old weight.old ≡ no_arms) }
+    ensures arms_sized { ArmsSized (arm_tables first.new count.new to.new args.new weight.new) × ArmsWithin (arm_tables first.new count.new to.new args.new weight.new) result.at × (result.at ≤ m) }
+    ensures arms_after { ArmsAfter place.now t.now m (arm_tables first.new count.new to.new args.new weight.new) result }
 {
     let mut last: usize = 0;
     let mut j: usize = 0;
@@ -173,9 +175,9 @@ fn read_records(
     args: &mut [u8; ARMS],
     heft: &mut [u64; ARMS],
 ) -> Reading
-    requires s_len_bound { (length s.now ≤ mostBytes) × (length s.now % size ≡ 0) }
-    requires weight_value { (blockTables place.old listed.old marks.old ends.old weight.old ≡ noBlocks) × (armTables first.old count.old to.old args.old heft.old ≡ noArms) }
-    ensures { Reads s.now (blockTables place.new listed.new marks.new ends.new weight.new) (armTables first.new count.new to.new args.new heft.new) result }
+    requires s_len_bound { (length s.now ≤ most_bytes) × (length s.now % size ≡ 0) }
+    requires weight_value { (block_tables place.old listed.old marks.old ends.old weight.old ≡ no_blocks) × (arm_tables first.old count.old to.old args.old heft.old ≡ no_arms) }
+    ensures { Reads s.now (block_tables place.new listed.new marks.new ends.new weight.new) (arm_tables first.new count.new to.new args.new heft.new) result }
 {
     let n = s.len() / RECORD;
     let front = read_blocks(s, n, place, listed, marks, ends, weight);
@@ -215,8 +217,8 @@ pub fn read(
     args: &mut [u8; ARMS],
     heft: &mut [u64; ARMS],
 ) -> Reading
-    requires { (blockTables place.old listed.old marks.old ends.old weight.old ≡ noBlocks) × (armTables first.old count.old to.old args.old heft.old ≡ noArms) }
-    ensures { Reads s.now (blockTables place.new listed.new marks.new ends.new weight.new) (armTables first.new count.new to.new args.new heft.new) result }
+    requires { (block_tables place.old listed.old marks.old ends.old weight.old ≡ no_blocks) × (arm_tables first.old count.old to.old args.old heft.old ≡ no_arms) }
+    ensures { Reads s.now (block_tables place.new listed.new marks.new ends.new weight.new) (arm_tables first.new count.new to.new args.new heft.new) result }
 {
     if MOST_BYTES < s.len() {
         return refused(1, 0);

@@ -5,14 +5,14 @@ use mathlib.Core.Path.{◌≡◌, refl, sym, ◌∙◌}
 use mathlib.Core.Bool.{Bool, true, false, cond, ◌&&◌, ◌||◌}
 use lib.Dec.{eqb, ltb, leb}
 use borrow.Author.Tests.{lt-ltb, le-ltb, le-leb, eq-eqb, ne_eqb}
-use Rattle.rules.specs.Refusals.{tooMany}
+use Rattle.rules.specs.Refusals.{too_many}
 
-by-arms : (arms : ℕ) (x y : Bool) → (eqb arms 2 && x) || (leb 3 arms && y) ≡ cond (leb 3 arms) y (eqb arms 2 && x)
-by-arms zero x y = refl
-by-arms (suc zero) x y = refl
-by-arms (suc (suc zero)) true y = refl
-by-arms (suc (suc zero)) false y = refl
-by-arms (suc (suc (suc arms))) x y = rw (le-leb 3 (suc (suc (suc arms))) (omega arith), ne_eqb (suc (suc (suc arms))) 2 (λ e. omega (arith, e)))
+by_arms : (arms : ℕ) (x y : Bool) → (eqb arms 2 && x) || (leb 3 arms && y) ≡ cond (leb 3 arms) y (eqb arms 2 && x)
+by_arms zero x y = refl
+by_arms (suc zero) x y = refl
+by_arms (suc (suc zero)) true y = refl
+by_arms (suc (suc zero)) false y = refl
+by_arms (suc (suc (suc arms))) x y = rw (le-leb 3 (suc (suc (suc arms))) (omega arith), ne_eqb (suc (suc (suc arms))) 2 (λ e. omega (arith, e)))
 
 low : (arms : ℕ) → ltb 1 arms ≡ cond (leb 3 arms) true (eqb arms 2 && true)
 low zero = refl
@@ -33,18 +33,18 @@ never (suc (suc zero)) = refl
 never (suc (suc (suc arms))) = rw (le-leb 3 (suc (suc (suc arms))) (omega arith))
 
 module _ (end arms : ℕ) where
-  pub many-low : end < 2 → ltb 1 arms ≡ tooMany end arms
-  unfolding tooMany
-  many-low h = rw (lt-ltb end 2 h, lt-ltb end 3 (omega arith)) (low arms ∙ sym (by-arms arms true true))
+  pub many_low : end < 2 → ltb 1 arms ≡ too_many end arms
+  unfolding too_many
+  many_low h = rw (lt-ltb end 2 h, lt-ltb end 3 (omega arith)) (low arms ∙ sym (by_arms arms true true))
 
-  pub many-two : 2 ≤ end → end ≡ 2 → ltb 2 arms ≡ tooMany end arms
-  unfolding tooMany
-  many-two h e = rw (le-ltb end 2 h, lt-ltb end 3 (omega arith)) (high arms ∙ sym (by-arms arms false true))
+  pub many_two : 2 ≤ end → end ≡ 2 → ltb 2 arms ≡ too_many end arms
+  unfolding too_many
+  many_two h e = rw (le-ltb end 2 h, lt-ltb end 3 (omega arith)) (high arms ∙ sym (by_arms arms false true))
 
-  pub many-six : 2 ≤ end → end ≡ 6 → ltb 2 arms ≡ tooMany end arms
-  unfolding tooMany
-  many-six h e = rw (le-ltb end 2 h, le-ltb end 3 (omega arith), eq-eqb end 6 e) (high arms ∙ sym (by-arms arms false true))
+  pub many_six : 2 ≤ end → end ≡ 6 → ltb 2 arms ≡ too_many end arms
+  unfolding too_many
+  many_six h e = rw (le-ltb end 2 h, le-ltb end 3 (omega arith), eq-eqb end 6 e) (high arms ∙ sym (by_arms arms false true))
 
-  pub many-never : 2 ≤ end → (end ≡ 2 → ⊥) → (end ≡ 6 → ⊥) → false ≡ tooMany end arms
-  unfolding tooMany
-  many-never h e f = rw (le-ltb end 2 h, le-ltb end 3 (omega (arith, e)), ne_eqb end 6 f) (never arms ∙ sym (by-arms arms false false))
+  pub many_never : 2 ≤ end → (end ≡ 2 → ⊥) → (end ≡ 6 → ⊥) → false ≡ too_many end arms
+  unfolding too_many
+  many_never h e f = rw (le-ltb end 2 h, le-ltb end 3 (omega (arith, e)), ne_eqb end 6 f) (never arms ∙ sym (by_arms arms false false))

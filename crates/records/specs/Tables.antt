@@ -14,33 +14,33 @@ unfoldable pub arm_at : Arms → ℕ → graph.Arm
 arm_at a q = record { to = get_or a.to q 0; args = get_or a.args q 0; weight = get_or a.weight q 0 }
 
 -- n arms from arm f on
-unfoldable pub armsFrom : Arms → ℕ → ℕ → List graph.Arm
-armsFrom a f zero = []
-armsFrom a f (suc n) = arm_at a f ∷ armsFrom a (suc f) n
+unfoldable pub arms_from : Arms → ℕ → ℕ → List graph.Arm
+arms_from a f zero = []
+arms_from a f (suc n) = arm_at a f ∷ arms_from a (suc f) n
 
 -- what is listed, by the tables that its records are made of
-abbrev pub onlyBlocks : List ℕ → List ℕ → List ℕ → List ℕ → Blocks
-onlyBlocks listed marks ends weight = record { place = []; listed = listed; marks = marks; ends = ends; weight = weight }
+abbrev pub only_blocks : List ℕ → List ℕ → List ℕ → List ℕ → Blocks
+only_blocks listed marks ends weight = record { place = []; listed = listed; marks = marks; ends = ends; weight = weight }
 
 -- all of the blocks' tables
-abbrev pub blockTables : List ℕ → List ℕ → List ℕ → List ℕ → List ℕ → Blocks
-blockTables place listed marks ends weight = record { place = place; listed = listed; marks = marks; ends = ends; weight = weight }
+abbrev pub block_tables : List ℕ → List ℕ → List ℕ → List ℕ → List ℕ → Blocks
+block_tables place listed marks ends weight = record { place = place; listed = listed; marks = marks; ends = ends; weight = weight }
 
 -- numbers alone
-abbrev pub onlyListed : List ℕ → Blocks
-onlyListed listed = onlyBlocks listed [] [] []
+abbrev pub only_listed : List ℕ → Blocks
+only_listed listed = only_blocks listed [] [] []
 
 -- arms without the blocks that they leave
-abbrev pub onlyArms : List ℕ → List ℕ → List ℕ → Arms
-onlyArms to args weight = record { first = []; count = []; to = to; args = args; weight = weight }
+abbrev pub only_arms : List ℕ → List ℕ → List ℕ → Arms
+only_arms to args weight = record { first = []; count = []; to = to; args = args; weight = weight }
 
 -- all of the arms' tables
-abbrev pub armTables : List ℕ → List ℕ → List ℕ → List ℕ → List ℕ → Arms
-armTables first count to args weight = record { first = first; count = count; to = to; args = args; weight = weight }
+abbrev pub arm_tables : List ℕ → List ℕ → List ℕ → List ℕ → List ℕ → Arms
+arm_tables first count to args weight = record { first = first; count = count; to = to; args = args; weight = weight }
 
 -- the arms that leave block n
 unfoldable pub leaves : Arms → ℕ → List graph.Arm
-leaves a n = armsFrom a (get_or a.first n 0) (get_or a.count n 0)
+leaves a n = arms_from a (get_or a.first n 0) (get_or a.count n 0)
 
 unfoldable pub block_at : Blocks → Arms → ℕ → graph.Block
 block_at b a n =
@@ -61,8 +61,8 @@ unfoldable pub tabled : Graph → graph.Graph
 tabled t = up_to t.b t.a t.blocks
 
 -- tables with nothing in them
-unfoldable pub noBlocks : Blocks
-noBlocks =
+unfoldable pub no_blocks : Blocks
+no_blocks =
     record {
       place = replicate most.blocks 0;
       listed = replicate most.blocks 0;
@@ -71,8 +71,8 @@ noBlocks =
       weight = replicate most.blocks 0;
     }
 
-unfoldable pub noArms : Arms
-noArms =
+unfoldable pub no_arms : Arms
+no_arms =
     record {
       first = replicate most.blocks 0;
       count = replicate most.blocks 0;
@@ -121,14 +121,14 @@ Apart t =
 pub record Holds (t : Graph) (g : graph.Graph) : Type 0 where
   pub graph_is : tabled t ≡ g
   pub few : t.blocks ≤ most.numbers
-  pub few-arms : t.arms ≤ most.mostArms
+  pub few_arms : t.arms ≤ most.most_arms
   pub total : length (written g) ≡ most.size * (t.blocks + t.arms)
   pub back : (i : ℕ) → i < t.blocks → get_or t.b.place (get_or t.b.listed i 0) 0 ≡ suc i
   pub placed : (n : ℕ) → get_or t.b.place n 0 ≤ t.blocks
   pub blank : (n : ℕ) → get_or t.b.place n 0 ≡ 0 → Blank t.b n × (get_or t.a.count n 0 ≡ 0)
   pub fits : ArmsWithin t.a t.arms
-  pub blocks-sized : BlocksSized t.b
-  pub arms-sized : ArmsSized t.a
+  pub blocks_sized : BlocksSized t.b
+  pub arms_sized : ArmsSized t.a
   pub apart : Apart t
 
 -- The tables stand for the graph g between the passes: its numbers are below n and each is listed once, `place` being the way back,
@@ -139,12 +139,12 @@ pub record Stands (n m : ℕ) (t : Graph) (g : graph.Graph) : Type 0 where
   pub below : (i : ℕ) → i < t.blocks → get_or t.b.listed i 0 < n
   pub back : (i : ℕ) → i < t.blocks → get_or t.b.place (get_or t.b.listed i 0) 0 ≡ suc i
   pub fits : ArmsWithin t.a m
-  pub blocks-sized : BlocksSized t.b
-  pub arms-sized : ArmsSized t.a
+  pub blocks_sized : BlocksSized t.b
+  pub arms_sized : ArmsSized t.a
 
 -- an order of blocks
-unfoldable pub inOrder : Order → List ℕ
-inOrder o = take o.len o.block
+unfoldable pub in_order : Order → List ℕ
+in_order o = take o.len o.block
 
 -- a block, or that there is none: numbers have no block past their room
 unfoldable pub optional : ℕ → Option ℕ

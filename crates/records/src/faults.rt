@@ -1,22 +1,22 @@
 // What is refused, by the few numbers that decide it: each function is a line or two of document 01's table.
 ghost use Rattle.std.specs.Prelude.{◌≡◌, ◌<◌};
 ghost use Rattle.limits.specs.Limits.{arms};
-ghost use Rattle.rules.specs.Graph.{isEntry};
-ghost use Rattle.rules.specs.Refusals.{tooMany};
-ghost use Rattle.records.specs.Faults.{blockFault, armFault, no_block, no_arm, entryNext, firstNext};
+ghost use Rattle.rules.specs.Graph.{is_entry};
+ghost use Rattle.rules.specs.Refusals.{too_many};
+ghost use Rattle.records.specs.Faults.{block_fault, arm_fault, no_block, no_arm, entry_next, first_next};
 
 use limits::MOST_ARMS;
 use rules::Record;
 
 pub fn is_entry(marks: u8) -> bool
-    ensures { result ≡ isEntry marks }
+    ensures { result ≡ is_entry marks }
 {
     marks % 2 == 1
 }
 
 // Blocks by 5, 6: where the number is listed already, where the entry is, the marks.
 pub fn block_fault(place: usize, entry: usize, marks: u8) -> u64
-    ensures { result ≡ blockFault place entry marks }
+    ensures { result ≡ block_fault place entry marks }
 {
     if 0 < place {
         return 5;
@@ -31,7 +31,7 @@ pub fn block_fault(place: usize, entry: usize, marks: u8) -> u64
 
 // Arms by 7, 4, 8: where from and to are listed, where the last arm's from is, how many arms came before.
 pub fn arm_fault(from: usize, to: usize, last: usize, arms: usize) -> u64
-    ensures { result ≡ armFault from to last arms }
+    ensures { result ≡ arm_fault from to last arms }
 {
     if 0 < from {
         if 0 < to {
@@ -91,7 +91,7 @@ pub fn no_arm(r: Record) -> u64
 
 pub fn entry_next(entry: usize, marks: u8, i: usize) -> usize
     requires { i < arms }
-    ensures { result ≡ entryNext entry marks i }
+    ensures { result ≡ entry_next entry marks i }
 {
     if is_entry(marks) { i + 1 } else { entry }
 }
@@ -99,13 +99,13 @@ pub fn entry_next(entry: usize, marks: u8, i: usize) -> usize
 // The first arm of a block with `count` arms before, the first at `first`, when arm j is its next.
 pub fn first_next(first: u16, count: u16, j: usize) -> u16
     requires { j < arms }
-    ensures { result ≡ firstNext first count j }
+    ensures { result ≡ first_next first count j }
 {
     if count == 0 { j as u16 } else { first }
 }
 
 pub fn too_many(end: u8, arms: usize) -> bool
-    ensures { result ≡ tooMany end arms }
+    ensures { result ≡ too_many end arms }
 {
     if end < 2 {
         return 1 < arms;

@@ -1,7 +1,7 @@
 // One record: sixteen bytes taken apart, and put together again.
 ghost use Rattle.std.specs.Prelude.{◌≡◌, ◌++◌, ◌<◌, length, take};
 ghost use Rattle.limits.specs.Limits.{size};
-ghost use Rattle.rules.specs.Records.{little, bytes_of, gapZero, block_of, armOf, recordOf, fields};
+ghost use Rattle.rules.specs.Records.{little, bytes_of, gap_zero, block_of, arm_of, record_of, fields};
 
 use limits::{ENDS, MARKS, NUMBERS};
 use rules::Record;
@@ -35,7 +35,7 @@ fn weight(r: &[u8]) -> u64
 
 fn gap_zero(r: &[u8]) -> bool
     requires { length r.now ≡ size }
-    ensures { result ≡ gapZero r.now }
+    ensures { result ≡ gap_zero r.now }
 {
     if r[4] == 0 {
         if r[5] == 0 {
@@ -74,7 +74,7 @@ fn block(r: &[u8]) -> Record
 
 fn arm(r: &[u8]) -> Record
     requires { length r.now ≡ size }
-    ensures { result ≡ armOf r.now }
+    ensures { result ≡ arm_of r.now }
 {
     let from = number(r[1]);
     let to = number(r[2]);
@@ -93,7 +93,7 @@ fn arm(r: &[u8]) -> Record
 // What sixteen bytes are; `Outside` where a field is outside the layout.
 pub fn decode(r: &[u8]) -> Record
     requires { length r.now ≡ size }
-    ensures { result ≡ recordOf r.now }
+    ensures { result ≡ record_of r.now }
 {
     if gap_zero(r) {
         let kind = r[0];

@@ -1,5 +1,7 @@
 // The record format: one record of 16 bytes, what is refused of it, and the tables that a graph is held in.
 // `reader` fills the tables from a file, and `writer` makes a file of them.
+#![tactic(auto)]
+
 pub mod entry;
 pub mod faults;
 pub mod fields;

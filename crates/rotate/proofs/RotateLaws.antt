@@ -11,62 +11,62 @@ use lib.ListN.{length, get_or, take, drop, take-append-drop}
 use lib.Seq.{slice, slice_empty, length-slice}
 use borrow.Author.Tests.{lt-ltb, le-ltb, ne_eqb}
 use Rattle.limits.specs.Limits.{blocks, arms}
-use Rattle.lists.proofs.Choices.{split-lt}
+use Rattle.lists.proofs.Choices.{split_lt}
 use Rattle.rules.specs.Lists.{pick, keep, any, best, mem}
 use Rattle.rules.specs.Graph as graph
-use Rattle.rules.specs.Graph.{Arm, isWalking, names}
-use Rattle.rules.specs.Weights.{overFourFifths}
-use Rattle.rules.specs.Rotate.{backArm, leadIn, cycle, turns, WayOut, worse, waysOut, turned, rotate}
-use Rattle.rules.proofs.Membership.{In, best-in, map-In, append-In, In-right}
-use Rattle.rules.proofs.Wholeness.{block_in, arm-target}
-use Rattle.rules.proofs.RotateLast.{no-exit}
+use Rattle.rules.specs.Graph.{Arm, is_walking, names}
+use Rattle.rules.specs.Weights.{over_four_fifths}
+use Rattle.rules.specs.Rotate.{back_arm, lead_in, cycle, turns, WayOut, worse, ways_out, turned, rotate}
+use Rattle.rules.proofs.Membership.{In, best_in_lem, map-In, append-In, In-right}
+use Rattle.rules.proofs.Wholeness.{block_in, arm_target}
+use Rattle.rules.proofs.RotateLast.{no_exit}
 use Rattle.records.specs.declared.Arms.{Arms}
 use Rattle.records.specs.declared.Graph.{Graph}
 use Rattle.records.specs.declared.Blocks.{Blocks}
-use Rattle.records.specs.Tables.{arm_at, armTables, leaves, block_at, tabled, optional}
-use Rattle.records.proofs.StandLaws.{optional-some}
+use Rattle.records.specs.Tables.{arm_at, arm_tables, leaves, block_at, tabled, optional}
+use Rattle.records.proofs.StandLaws.{optional_some}
 use Rattle.marks.specs.Sets.{member}
-use Rattle.marks.proofs.SetLaws.{eqb-turn}
+use Rattle.marks.proofs.SetLaws.{eqb_turn}
 use Rattle.flow.specs.declared.Choice.{Choice}
 use Rattle.flow.specs.declared.Choice.TheVariants as choice
-use Rattle.flow.specs.Lent.{Flows, Of, Marks, armOf}
-use Rattle.flow.proofs.LentLaws.{block-is, small, marks-at, weight-at, to_at, heft-at}
+use Rattle.flow.specs.Lent.{Flows, Of, Marks, arm_of}
+use Rattle.flow.proofs.LentLaws.{block_is, small, marks_at, weight_at, to_at, heft_at}
 use Rattle.rotate.specs.declared.Out.{Out}
 use Rattle.rotate.specs.declared.Out.TheVariants as out
-use Rattle.rotate.specs.Turning.{TraceAt, Held, Finds, way, way_of, liked, ways_at, waysFrom, AllOf, Turns, Rotated}
-use Rattle.rotate.proofs.PlaceLaws.{cut, fore, place_in, last-is}
+use Rattle.rotate.specs.Turning.{TraceAt, Held, Finds, way, way_of, liked, ways_at, ways_from, AllOf, Turns, Rotated}
+use Rattle.rotate.proofs.PlaceLaws.{cut, fore, place_in, last_is}
 
 -- ---- a way out is from a block of the part
 way_at : (preferred inside : ℕ → Bool) (i : ℕ) (l : List Arm) (w : WayOut) → In w (ways_at preferred inside i l) → w.index ≡ i
 unfolding ways_at
 way_at preferred inside i l w = go (leb (length l) 2)
   where
-    wayBy : Arm → WayOut
-    wayBy a = way (cond (preferred a.to) 1 0) a.weight i
+    way_by : Arm → WayOut
+    way_by a = way (cond (preferred a.to) 1 0) a.weight i
 
     leaving : List Arm
     leaving = keep (λ (a : Arm). not (inside a.to)) l
 
-    go : (b : Bool) → In w (cond b (map wayBy leaving) []) → w.index ≡ i
+    go : (b : Bool) → In w (cond b (map way_by leaving) []) → w.index ≡ i
     go false k = absurd k
-    go true k = ap (λ (x : WayOut). x.index) (map-In wayBy leaving w k).2
+    go true k = ap (λ (x : WayOut). x.index) (map-In way_by leaving w k).2
 
-way-from : (a : Arms) (preferred inside : ℕ → Bool) (i : ℕ) (l : List ℕ) (w : WayOut) → In w (waysFrom a preferred inside i l) → w.index < i + length l
-unfolding waysFrom
-way-from a preferred inside i [] w k = absurd k
-way-from a preferred inside i (n ∷ l) w k =
-    ⊎_elim (λ j. omega (arith, way_at preferred inside i (leaves a n) w j)) (λ j. omega (arith, way-from a preferred inside (i + 1) l w j))
-    (append-In w (ways_at preferred inside i (leaves a n)) (waysFrom a preferred inside (i + 1) l) k)
+way_from : (a : Arms) (preferred inside : ℕ → Bool) (i : ℕ) (l : List ℕ) (w : WayOut) → In w (ways_from a preferred inside i l) → w.index < i + length l
+unfolding ways_from
+way_from a preferred inside i [] w k = absurd k
+way_from a preferred inside i (n ∷ l) w k =
+    ⊎_elim (λ j. omega (arith, way_at preferred inside i (leaves a n) w j)) (λ j. omega (arith, way_from a preferred inside (i + 1) l w j))
+    (append-In w (ways_at preferred inside i (leaves a n)) (ways_from a preferred inside (i + 1) l) k)
 
 -- so the part has room for the turn
-pub turn-fits : (a : Arms) (preferred inside : ℕ → Bool) (order : List ℕ) (p e : ℕ) (r : Out) (x y i : ℕ) → p < e → e ≤ length order → r ≡ out.Way x y i
-    → way_of r ≡ best worse none (waysFrom a preferred inside 0 (slice p e order)) → p + (i + 1) ≤ e
+pub turn_fits : (a : Arms) (preferred inside : ℕ → Bool) (order : List ℕ) (p e : ℕ) (r : Out) (x y i : ℕ) → p < e → e ≤ length order → r ≡ out.Way x y i
+    → way_of r ≡ best worse none (ways_from a preferred inside 0 (slice p e order)) → p + (i + 1) ≤ e
 unfolding way_of
-turn-fits a preferred inside order p e r x y i lt le q h =
+turn_fits a preferred inside order p e r x y i lt le q h =
     let part : List ℕ = slice p e order in
-    let b : best worse none (waysFrom a preferred inside 0 part) ≡ some (way x y i) = sym h ∙ ap way_of q in
-    ⊎_elim (λ z. absurd (let y : ◌≡◌ {A = ℕ} 0 1 = cc in omega arith)) (λ j. omega (arith, lt, way-from a preferred inside 0 part (way x y i) j, length-slice p e order le))
-    (best-in worse none (waysFrom a preferred inside 0 part) (way x y i) b)
+    let b : best worse none (ways_from a preferred inside 0 part) ≡ some (way x y i) = sym h ∙ ap way_of q in
+    ⊎_elim (λ z. absurd (let y : ◌≡◌ {A = ℕ} 0 1 = cc in omega arith)) (λ j. omega (arith, lt, way_from a preferred inside 0 part (way x y i) j, length-slice p e order le))
+    (best_in_lem worse none (ways_from a preferred inside 0 part) (way x y i) b)
 
 -- ---- tests
 any_same : (p q : ℕ → Bool) (l : List ℕ) → ((n : ℕ) → In n l → p n ≡ q n) → any p l ≡ any q l
@@ -78,21 +78,21 @@ and_first : (m a b c d : Bool) → m && a && b && c && d ≡ m && (a && b && c &
 and_first true a b c d = refl
 and_first false a b c d = refl
 
-and-false : (m : Bool) → m && false ≡ false
-and-false true = refl
-and-false false = refl
+and_false : (m : Bool) → m && false ≡ false
+and_false true = refl
+and_false false = refl
 
 -- what is asked besides the place in the trace
 abbrev judge : List ℕ → List ℕ → List ℕ → ℕ → ℕ → ℕ → ℕ → ℕ → ℕ → Bool
 judge marks weight o entry last p e x arm =
-    not (eqb x last) && not (eqb x entry) && overFourFifths arm (get_or weight x 0) && not (any (λ (n : ℕ). isWalking (get_or marks n 0)) (slice p e o))
+    not (eqb x last) && not (eqb x entry) && over_four_fifths arm (get_or weight x 0) && not (any (λ (n : ℕ). is_walking (get_or marks n 0)) (slice p e o))
 
 -- an entry past the numbers is none
 named : (entry x : ℕ) → x < blocks → names (optional entry) x ≡ eqb x entry
 unfolding names optional pick
 named entry x h =
-    split-lt entry blocks
-    (λ k. ap (λ (o : Option ℕ). names o x) (optional-some entry k) ∙ eqb-turn entry x)
+    split_lt entry blocks
+    (λ k. ap (λ (o : Option ℕ). names o x) (optional_some entry k) ∙ eqb_turn entry x)
     (λ k. rw (le-ltb entry blocks k) (sym (ne_eqb x entry (λ z. omega (arith, h, k, z)))))
 
 -- ---- the rule, by the place that it turns from
@@ -103,87 +103,87 @@ module _ (g : graph.Graph) (o : List ℕ) (s e : ℕ) (lt : s < e) (le : e ≤ l
   abbrev From : ℕ → Type 0
   From r = rotate g laid begun (slice s e o) ≡ slice s r o ++ turned g chosen (slice r e o)
 
-  as-it-is : rotate g laid begun (slice s e o) ≡ slice s e o → From e
-  unfolding turned waysOut best
-  as-it-is h = h ∙ sym (rw (slice_empty e o) (append-nil (slice s e o)))
+  as_it_is : rotate g laid begun (slice s e o) ≡ slice s e o → From e
+  unfolding turned ways_out best
+  as_it_is h = h ∙ sym (rw (slice_empty e o) (append-nil (slice s e o)))
 
-  abbrev byTurn : Arm → Bool → List ℕ
-  byTurn a b = elim b as (λ (x : Bool). List ℕ) [ false ↦ slice s e o | true ↦ leadIn a.to (slice s e o) ++ turned g chosen (cycle a.to (slice s e o)) ]
+  abbrev by_turn : Arm → Bool → List ℕ
+  by_turn a b = elim b as (λ (x : Bool). List ℕ) [ false ↦ slice s e o | true ↦ lead_in a.to (slice s e o) ++ turned g chosen (cycle a.to (slice s e o)) ]
 
-  abbrev byArm : ℕ → Option Arm → List ℕ
-  byArm last x = elim x as (λ (y : Option Arm). List ℕ) [ none ↦ slice s e o | some a ↦ byTurn a (turns g last a (slice s e o)) ]
+  abbrev by_arm : ℕ → Option Arm → List ℕ
+  by_arm last x = elim x as (λ (y : Option Arm). List ℕ) [ none ↦ slice s e o | some a ↦ by_turn a (turns g last a (slice s e o)) ]
 
-  rule : rotate g laid begun (slice s e o) ≡ byArm (get_or o (e - 1) 0) (backArm (graph.block_at g (get_or o (e - 1) 0)))
+  rule : rotate g laid begun (slice s e o) ≡ by_arm (get_or o (e - 1) 0) (back_arm (graph.block_at g (get_or o (e - 1) 0)))
   unfolding rotate
-  rule = ap (λ (n : ℕ). byArm n (backArm (graph.block_at g n))) (last-is blocks o s e lt le)
+  rule = ap (λ (n : ℕ). by_arm n (back_arm (graph.block_at g n))) (last_is blocks o s e lt le)
 
-  pub no_arm : backArm (graph.block_at g (get_or o (e - 1) 0)) ≡ none → From e
-  no_arm n = as-it-is (rule ∙ ap (byArm (get_or o (e - 1) 0)) n)
+  pub no_arm : back_arm (graph.block_at g (get_or o (e - 1) 0)) ≡ none → From e
+  no_arm n = as_it_is (rule ∙ ap (by_arm (get_or o (e - 1) 0)) n)
 
-  module _ (a : Arm) (b : backArm (graph.block_at g (get_or o (e - 1) 0)) ≡ some a) where
-    pub no-turn : turns g (get_or o (e - 1) 0) a (slice s e o) ≡ false → From e
-    no-turn n = as-it-is (rule ∙ ap (byArm (get_or o (e - 1) 0)) b ∙ ap (byTurn a) n)
+  module _ (a : Arm) (b : back_arm (graph.block_at g (get_or o (e - 1) 0)) ≡ some a) where
+    pub no_turn : turns g (get_or o (e - 1) 0) a (slice s e o) ≡ false → From e
+    no_turn n = as_it_is (rule ∙ ap (by_arm (get_or o (e - 1) 0)) b ∙ ap (by_turn a) n)
 
     pub turn : (p : ℕ) → Finds o s e a.to p → turns g (get_or o (e - 1) 0) a (slice s e o) ≡ true → From p
     turn p f n =
-        rule ∙ ap (byArm (get_or o (e - 1) 0)) b ∙ ap (byTurn a) n ∙ ap₂ (λ (x y : List ℕ). x ++ turned g chosen y) f.before f.from
+        rule ∙ ap (by_arm (get_or o (e - 1) 0)) b ∙ ap (by_turn a) n ∙ ap₂ (λ (x y : List ℕ). x ++ turned g chosen y) f.before f.from
 
 -- ---- the tables of a graph
 module _ {t : Graph} {marks weight first count to heft : List ℕ} (l : Flows t marks weight first count to heft) where
-  arms-are : t.a ≡ armTables first count to t.a.args heft
-  arms-are =
+  arms_are : t.a ≡ arm_tables first count to t.a.args heft
+  arms_are =
       let o = l.over in
-      ap (λ (x : List ℕ). armTables x t.a.count t.a.to t.a.args t.a.weight) o.first-is
-      ∙ ap (λ (x : List ℕ). armTables first x t.a.to t.a.args t.a.weight) o.count-is
-      ∙ ap (λ (x : List ℕ). armTables first count x t.a.args t.a.weight) o.to_is
-      ∙ ap (λ (x : List ℕ). armTables first count to t.a.args x) o.heft-is
+      ap (λ (x : List ℕ). arm_tables x t.a.count t.a.to t.a.args t.a.weight) o.first_is
+      ∙ ap (λ (x : List ℕ). arm_tables first x t.a.to t.a.args t.a.weight) o.count_is
+      ∙ ap (λ (x : List ℕ). arm_tables first count x t.a.args t.a.weight) o.to_is
+      ∙ ap (λ (x : List ℕ). arm_tables first count to t.a.args x) o.heft_is
 
   -- the arm that goes back, of block n
-  back_is : (r : Choice) (n : ℕ) → Of t n → armOf (armTables first count to t.a.args heft) r ≡ backArm (block_at t.b (armTables first count to t.a.args heft) n)
-      → backArm (graph.block_at (tabled t) n) ≡ armOf t.a r
-  back_is r n i h = ap backArm (block-is l n i) ∙ sym (subst (λ (a : Arms). armOf a r ≡ backArm (block_at t.b a n)) (sym arms-are) h)
+  back_is : (r : Choice) (n : ℕ) → Of t n → arm_of (arm_tables first count to t.a.args heft) r ≡ back_arm (block_at t.b (arm_tables first count to t.a.args heft) n)
+      → back_arm (graph.block_at (tabled t) n) ≡ arm_of t.a r
+  back_is r n i h = ap back_arm (block_is l n i) ∙ sym (subst (λ (a : Arms). arm_of a r ≡ back_arm (block_at t.b a n)) (sym arms_are) h)
 
   -- it goes to a block
-  back-of : (n : ℕ) (x : Arm) → Of t n → backArm (graph.block_at (tabled t) n) ≡ some x → Of t x.to
-  unfolding backArm
-  back-of n x i e =
+  back_of_lem : (n : ℕ) (x : Arm) → Of t n → back_arm (graph.block_at (tabled t) n) ≡ some x → Of t x.to
+  unfolding back_arm
+  back_of_lem n x i e =
       let b = graph.block_at (tabled t) n in
-      ⊎_elim (λ z. absurd (let y : ◌≡◌ {A = ℕ} 0 1 = cc in omega arith)) (λ j. l.whole b (block_in (tabled t) n i).0 x.to (arm-target b x j))
-      (best-in (λ (x y : Arm). leb x.weight y.weight) none b.arms x e)
+      ⊎_elim (λ z. absurd (let y : ◌≡◌ {A = ℕ} 0 1 = cc in omega arith)) (λ j. l.whole b (block_in (tabled t) n i).0 x.to (arm_target b x j))
+      (best_in_lem (λ (x y : Arm). leb x.weight y.weight) none b.arms x e)
 
   -- the tests of the rule
-  module _ (o : List ℕ) (s e entry : ℕ) (named-so : optional entry ≡ graph.entry (tabled t)) (all : AllOf t (slice s e o)) (last : ℕ) (a : Arm) (to-of : Of t a.to) (p : ℕ) (f : Finds o s e a.to p) (le : e ≤ length o) where
-    turns-is : turns (tabled t) last a (slice s e o) ≡ ltb p e && judge marks weight o entry last p e a.to a.weight
+  module _ (o : List ℕ) (s e entry : ℕ) (named_so : optional entry ≡ graph.entry (tabled t)) (all : AllOf t (slice s e o)) (last : ℕ) (a : Arm) (to_of : Of t a.to) (p : ℕ) (f : Finds o s e a.to p) (le : e ≤ length o) where
+    turns_is : turns (tabled t) last a (slice s e o) ≡ ltb p e && judge marks weight o entry last p e a.to a.weight
     unfolding turns
-    turns-is =
-        let w : any (λ (n : ℕ). isWalking (graph.block_at (tabled t) n).marks) (cycle a.to (slice s e o)) ≡ any (λ (n : ℕ). isWalking (get_or marks n 0)) (slice p e o) =
-        ap (any (λ (n : ℕ). isWalking (graph.block_at (tabled t) n).marks)) f.from
-        ∙ any_same _ _ (slice p e o) (λ n i. ap isWalking (marks-at l n (all n (subst (In n) (cut o s p e f.low f.high le) (In-right n (slice s p o) (slice p e o) i))))) in
-        let q : names (graph.entry (tabled t)) a.to ≡ eqb a.to entry = ap (λ (x : Option ℕ). names x a.to) (sym named-so) ∙ named entry a.to (omega (arith, small l a.to to-of)) in
-        rw (f.found, q, weight-at l a.to to-of, w) (and_first (ltb p e) _ _ _ _)
+    turns_is =
+        let w : any (λ (n : ℕ). is_walking (graph.block_at (tabled t) n).marks) (cycle a.to (slice s e o)) ≡ any (λ (n : ℕ). is_walking (get_or marks n 0)) (slice p e o) =
+        ap (any (λ (n : ℕ). is_walking (graph.block_at (tabled t) n).marks)) f.from
+        ∙ any_same _ _ (slice p e o) (λ n i. ap is_walking (marks_at l n (all n (subst (In n) (cut o s p e f.low f.high le) (In-right n (slice s p o) (slice p e o) i))))) in
+        let q : names (graph.entry (tabled t)) a.to ≡ eqb a.to entry = ap (λ (x : Option ℕ). names x a.to) (sym named_so) ∙ named entry a.to (omega (arith, small l a.to to_of)) in
+        rw (f.found, q, weight_at l a.to to_of, w) (and_first (ltb p e) _ _ _ _)
 
   -- the ways out
-  ways-are : (chosen : ℕ → Bool) (part : List ℕ) (i : ℕ) (k : List ℕ) → AllOf t k → waysFrom t.a chosen (λ (m : ℕ). mem m part) i k ≡ waysOut (tabled t) chosen part i k
-  unfolding waysFrom waysOut ways_at block_at
-  ways-are chosen part i [] all = refl
-  ways-are chosen part i (n ∷ k) all =
-      ap₂ (λ (x y : List WayOut). x ++ y) (ap (λ (b : graph.Block). ways_at chosen (λ (m : ℕ). mem m part) i b.arms) (sym (block-is l n (all n (inl refl)))))
-      (ways-are chosen part (i + 1) k (λ m j. all m (inr j)))
+  ways_are : (chosen : ℕ → Bool) (part : List ℕ) (i : ℕ) (k : List ℕ) → AllOf t k → ways_from t.a chosen (λ (m : ℕ). mem m part) i k ≡ ways_out (tabled t) chosen part i k
+  unfolding ways_from ways_out ways_at block_at
+  ways_are chosen part i [] all = refl
+  ways_are chosen part i (n ∷ k) all =
+      ap₂ (λ (x y : List WayOut). x ++ y) (ap (λ (b : graph.Block). ways_at chosen (λ (m : ℕ). mem m part) i b.arms) (sym (block_is l n (all n (inl refl)))))
+      (ways_are chosen part (i + 1) k (λ m j. all m (inr j)))
 
   module _ (seen starts inside laid begun part : List ℕ) (ms : Marks seen laid) (mb : Marks starts begun) (mi : Marks inside part) (all : AllOf t part) where
-    outs-are : waysFrom (armTables first count to t.a.args heft) (liked seen starts) (member inside) 0 part ≡ waysOut (tabled t) (λ (n : ℕ). not (mem n laid) || mem n begun) part 0 part
-    outs-are =
+    outs_are : ways_from (arm_tables first count to t.a.args heft) (liked seen starts) (member inside) 0 part ≡ ways_out (tabled t) (λ (n : ℕ). not (mem n laid) || mem n begun) part 0 part
+    outs_are =
         let q : liked seen starts ≡ (λ (n : ℕ). not (mem n laid) || mem n begun) = fun_ext (λ n. ap₂ (λ (x y : Bool). not x || y) (ms n) (mb n)) in
-        ap (λ (a : Arms). waysFrom a (liked seen starts) (member inside) 0 part) (sym arms-are)
-        ∙ ap₂ (λ (x y : ℕ → Bool). waysFrom t.a x y 0 part) q (fun_ext mi)
-        ∙ ways-are (λ (n : ℕ). not (mem n laid) || mem n begun) part 0 part all
+        ap (λ (a : Arms). ways_from a (liked seen starts) (member inside) 0 part) (sym arms_are)
+        ∙ ap₂ (λ (x y : ℕ → Bool). ways_from t.a x y 0 part) q (fun_ext mi)
+        ∙ ways_are (λ (n : ℕ). not (mem n laid) || mem n begun) part 0 part all
 
 -- ---- where the part starts that turns
 pub held_in : (r : Choice) (q : ℕ) → r ≡ choice.Arm q → Held r → q < arms
 held_in r q e h = rw e at h
 
 module _ (marks weight first count to heft order : List ℕ) (entry s e : ℕ) (k : TraceAt order s e) (r : Choice)
-    (h : (of : Blocks) (to args : List ℕ) → armOf (armTables first count to args heft) r ≡ backArm (block_at of (armTables first count to args heft) (get_or order (e - 1) 0))) where
+    (h : (of : Blocks) (to args : List ℕ) → arm_of (arm_tables first count to args heft) r ≡ back_arm (block_at of (arm_tables first count to args heft) (get_or order (e - 1) 0))) where
   abbrev last : ℕ
   last = get_or order (e - 1) 0
 
@@ -193,53 +193,53 @@ module _ (marks weight first count to heft order : List ℕ) (entry s e : ℕ) (
   last_of : (t : Graph) → AllOf t (slice s e order) → Of t last
   last_of t all = all last (place_in order s (e - 1) e (omega (arith, k.some_block)) (omega (arith, k.some_block)) in_order)
 
-  goes_back : (t : Graph) → Flows t marks weight first count to heft → AllOf t (slice s e order) → backArm (graph.block_at (tabled t) last) ≡ armOf t.a r
+  goes_back : (t : Graph) → Flows t marks weight first count to heft → AllOf t (slice s e order) → back_arm (graph.block_at (tabled t) last) ≡ arm_of t.a r
   goes_back t l all = back_is l r last (last_of t all) (h t.b to t.a.args)
 
   pub nowhere : r ≡ choice.Nothing → Turns marks weight first count to heft order entry s e e
-  unfolding armOf
+  unfolding arm_of
   nowhere q =
       record {
         low = omega (arith, k.some_block);
         high = omega arith;
-        parted = λ t l n all laid begun. no_arm (tabled t) order s e k.some_block in_order laid begun (goes_back t l all ∙ ap (armOf t.a) q);
+        parted = λ t l n all laid begun. no_arm (tabled t) order s e k.some_block in_order laid begun (goes_back t l all ∙ ap (arm_of t.a) q);
       }
 
   module _ (q : ℕ) (is : r ≡ choice.Arm q) (p : ℕ) (f : Finds order s e (get_or to q 0) p) (b : Bool) (j : b ≡ judge marks weight order entry last p e (get_or to q 0) (get_or heft q 0)) where
     module _ (t : Graph) (l : Flows t marks weight first count to heft) (n : optional entry ≡ graph.entry (tabled t)) (all : AllOf t (slice s e order)) where
-      back : backArm (graph.block_at (tabled t) last) ≡ some (arm_at t.a q)
-      unfolding armOf
-      back = goes_back t l all ∙ ap (armOf t.a) is
+      back : back_arm (graph.block_at (tabled t) last) ≡ some (arm_at t.a q)
+      unfolding arm_of
+      back = goes_back t l all ∙ ap (arm_of t.a) is
 
       finds : Finds order s e (arm_at t.a q).to p
       finds = subst (λ (x : ℕ). Finds order s e x p) (sym (to_at l q)) f
 
       tested : turns (tabled t) last (arm_at t.a q) (slice s e order) ≡ ltb p e && b
       tested =
-          turns-is l order s e entry n all last (arm_at t.a q) (back-of l last (arm_at t.a q) (last_of t all) back) p finds in_order
-          ∙ ap (λ (x : Bool). ltb p e && x) (ap₂ (judge marks weight order entry last p e) (to_at l q) (heft-at l q) ∙ sym j)
+          turns_is l order s e entry n all last (arm_at t.a q) (back_of_lem l last (arm_at t.a q) (last_of t all) back) p finds in_order
+          ∙ ap (λ (x : Bool). ltb p e && x) (ap₂ (judge marks weight order entry last p e) (to_at l q) (heft_at l q) ∙ sym j)
 
-    pub turned-from : b ≡ true → Turns marks weight first count to heft order entry s e p
-    turned-from y =
+    pub turned_from : b ≡ true → Turns marks weight first count to heft order entry s e p
+    turned_from y =
         record {
           low = f.low;
           high = f.high;
           parted = λ t l n all laid begun.
-              split-lt p e
+              split_lt p e
               (λ i. turn (tabled t) order s e k.some_block in_order laid begun (arm_at t.a q) (back t l n all) p (finds t l n all) (tested t l n all ∙ ap₂ (λ (x z : Bool). x && z) (lt-ltb p e i) y))
               (λ i.
               let z : e ≡ p = omega (arith, i, f.high) in
               subst (λ (x : ℕ). rotate (tabled t) laid begun (slice s e order) ≡ slice s x order ++ turned (tabled t) (λ (n : ℕ). not (mem n laid) || mem n begun) (slice x e order)) z
-              (no-turn (tabled t) order s e k.some_block in_order laid begun (arm_at t.a q) (back t l n all) (tested t l n all ∙ ap (λ (x : Bool). x && b) (le-ltb p e i))));
+              (no_turn (tabled t) order s e k.some_block in_order laid begun (arm_at t.a q) (back t l n all) (tested t l n all ∙ ap (λ (x : Bool). x && b) (le-ltb p e i))));
         }
 
-    pub not-turned : b ≡ false → Turns marks weight first count to heft order entry s e e
-    not-turned y =
+    pub not_turned : b ≡ false → Turns marks weight first count to heft order entry s e e
+    not_turned y =
         record {
           low = omega (arith, k.some_block);
           high = omega arith;
           parted = λ t l n all laid begun.
-              no-turn (tabled t) order s e k.some_block in_order laid begun (arm_at t.a q) (back t l n all) (tested t l n all ∙ ap (λ (x : Bool). ltb p e && x) y ∙ and-false (ltb p e));
+              no_turn (tabled t) order s e k.some_block in_order laid begun (arm_at t.a q) (back t l n all) (tested t l n all ∙ ap (λ (x : Bool). ltb p e && x) y ∙ and_false (ltb p e));
         }
 
 -- ---- the order with the rotated trace in it
@@ -257,33 +257,33 @@ module _ (marks weight first count to heft seen starts : List ℕ) (entry s e : 
       ∙ ap (λ (x : List ℕ). x ++ drop e order) (fore order s e (omega (arith, k.some_block)))
       ∙ take-append-drop e order)
 
-  pub rotated-none : e ≤ p → Rotated marks weight first count to heft seen starts entry s e order order
-  unfolding turned waysOut best
-  rotated-none h t l n all laid begun ms mb =
+  pub rotated_none : e ≤ p → Rotated marks weight first count to heft seen starts entry s e order order
+  unfolding turned ways_out best
+  rotated_none h t l n all laid begun ms mb =
       let z : p ≡ e = omega (arith, h, w.high) in
       let y : slice p e order ≡ [] = ap (λ (x : ℕ). slice x e order) z ∙ slice_empty e order in
       still t l n all laid begun (rw y refl)
 
   module _ (inside : List ℕ) (mi : Marks inside (slice p e order)) (r : Out)
-      (h : (args : List ℕ) → way_of r ≡ best worse none (waysFrom (armTables first count to args heft) (liked seen starts) (member inside) 0 (slice p e order))) where
+      (h : (args : List ℕ) → way_of r ≡ best worse none (ways_from (arm_tables first count to args heft) (liked seen starts) (member inside) 0 (slice p e order))) where
     module _ (t : Graph) (l : Flows t marks weight first count to heft) (all : AllOf t (slice s e order)) (laid begun : List ℕ) (ms : Marks seen laid) (mb : Marks starts begun) where
-      best-out : best worse none (waysOut (tabled t) (λ (n : ℕ). not (mem n laid) || mem n begun) (slice p e order) 0 (slice p e order)) ≡ way_of r
-      best-out =
-          sym (h t.a.args ∙ ap (best worse none) (outs-are l seen starts inside laid begun (slice p e order) ms mb mi
+      best_out : best worse none (ways_out (tabled t) (λ (n : ℕ). not (mem n laid) || mem n begun) (slice p e order) 0 (slice p e order)) ≡ way_of r
+      best_out =
+          sym (h t.a.args ∙ ap (best worse none) (outs_are l seen starts inside laid begun (slice p e order) ms mb mi
           (λ n i. all n (subst (In n) (cut order s p e w.low w.high long) (In-right n (slice s p order) (slice p e order) i)))))
 
-    pub rotated-stuck : r ≡ out.Nothing → Rotated marks weight first count to heft seen starts entry s e order order
+    pub rotated_stuck : r ≡ out.Nothing → Rotated marks weight first count to heft seen starts entry s e order order
     unfolding way_of
-    rotated-stuck q t l n all laid begun ms mb =
-        still t l n all laid begun (no-exit (tabled t) (λ (n : ℕ). not (mem n laid) || mem n begun) (slice p e order) (best-out t l all laid begun ms mb ∙ ap way_of q))
+    rotated_stuck q t l n all laid begun ms mb =
+        still t l n all laid begun (no_exit (tabled t) (λ (n : ℕ). not (mem n laid) || mem n begun) (slice p e order) (best_out t l all laid begun ms mb ∙ ap way_of q))
 
     module _ (x y i : ℕ) (q : r ≡ out.Way x y i) (after : List ℕ)
         (z : after ≡ take p order ++ ((drop (i + 1) (slice p e order) ++ take (i + 1) (slice p e order)) ++ drop e order)) where
-      pub rotated-so : Rotated marks weight first count to heft seen starts entry s e order after
+      pub rotated_so : Rotated marks weight first count to heft seen starts entry s e order after
       unfolding way_of turned
-      rotated-so t l n all laid begun ms mb =
+      rotated_so t l n all laid begun ms mb =
           let part : List ℕ = slice p e order in
-          let b : turned (tabled t) (λ (n : ℕ). not (mem n laid) || mem n begun) part ≡ drop (i + 1) part ++ take (i + 1) part = ap (by part) (best-out t l all laid begun ms mb ∙ ap way_of q) in
+          let b : turned (tabled t) (λ (n : ℕ). not (mem n laid) || mem n begun) part ≡ drop (i + 1) part ++ take (i + 1) part = ap (by part) (best_out t l all laid begun ms mb ∙ ap way_of q) in
           z ∙ sym
           (ap (λ (v : List ℕ). take s order ++ (v ++ drop e order)) (w.parted t l n all laid begun ∙ ap (λ (v : List ℕ). slice s p order ++ v) b)
           ∙ ap (λ (v : List ℕ). take s order ++ v) (append_assoc (slice s p order) (drop (i + 1) part ++ take (i + 1) part) (drop e order))

@@ -13,13 +13,13 @@ copy_step d src out at from i e h k =
     let l : i < length (drop from src) = omega (arith, length-drop from src) in
     rw (e, ← get_or-drop from src i 0, add-one) (paste-suc d at (drop from src) i 0 h l)
 
-drop-take : (k m : ℕ) (l : List ℕ) → drop k (take (k + m) l) ≡ take m (drop k l)
-drop-take zero m l = let e : 0 + m ≡ m = omega arith in rw e
-drop-take (suc k) m [] = ap (λ (l : List ℕ). drop (suc k) l) (take-nil (suc k + m)) ∙ sym (take-nil m)
-drop-take (suc k) m (x ∷ l) = let e : suc k + m ≡ suc (k + m) = omega arith in rw e (drop-take k m l)
+drop_take : (k m : ℕ) (l : List ℕ) → drop k (take (k + m) l) ≡ take m (drop k l)
+drop_take zero m l = let e : 0 + m ≡ m = omega arith in rw e
+drop_take (suc k) m [] = ap (λ (l : List ℕ). drop (suc k) l) (take-nil (suc k + m)) ∙ sym (take-nil m)
+drop_take (suc k) m (x ∷ l) = let e : suc k + m ≡ suc (k + m) = omega arith in rw e (drop_take k m l)
 
 pub slice_is : (o : List ℕ) (p e : ℕ) → p ≤ e → slice p e o ≡ take (e - p) (drop p o)
-slice_is o p e h = let n : p + (e - p) ≡ e = omega arith in ap (λ (x : ℕ). drop p (take x o)) (sym n) ∙ drop-take p (e - p) o
+slice_is o p e h = let n : p + (e - p) ≡ e = omega arith in ap (λ (x : ℕ). drop p (take x o)) (sym n) ∙ drop_take p (e - p) o
 
 pub turn_is : (o : List ℕ) (p e k : ℕ) → p + k ≤ e → e ≤ length o
     → paste (paste o p (drop (p + k) o) (e - p - k)) (p + (e - p - k)) (drop p o) k ≡ take p o ++ ((drop k (slice p e o) ++ take k (slice p e o)) ++ drop e o)
@@ -31,7 +31,7 @@ turn_is o p e k h le =
     let d : drop e c ≡ drop e o = ap (λ (x : ℕ). drop x c) (sym n) ∙ sym (drop-drop k (p + (e - p - k)) c) ∙ ap (drop k) b ∙ drop-drop k (p + (e - p - k)) o ∙ ap (λ (x : ℕ). drop x o) n in
     let s : e - p ≡ k + (e - p - k) = omega arith in
     let q : drop k (slice p e o) ≡ take (e - p - k) (drop (p + k) o) =
-    ap (drop k) (slice_is o p e (omega arith)) ∙ ap (λ (x : ℕ). drop k (take x (drop p o))) s ∙ drop-take k (e - p - k) (drop p o) ∙ ap (take (e - p - k)) (drop-drop k p o) in
+    ap (drop k) (slice_is o p e (omega arith)) ∙ ap (λ (x : ℕ). drop k (take x (drop p o))) s ∙ drop_take k (e - p - k) (drop p o) ∙ ap (take (e - p - k)) (drop-drop k p o) in
     let t : take k (slice p e o) ≡ take k (drop p o) = ap (take k) (slice_is o p e (omega arith)) ∙ take-take k (e - p) (drop p o) (omega arith) in
     rw (n, a, d, q, t) (ap (λ (x : List ℕ). x ++ drop e o) (append_assoc (take p o) (take (e - p - k) (drop (p + k) o)) (take k (drop p o)))
     ∙ append_assoc (take p o) (take (e - p - k) (drop (p + k) o) ++ take k (drop p o)) (drop e o))

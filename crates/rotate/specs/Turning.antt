@@ -6,7 +6,7 @@ use Rattle.limits.specs.Limits.{blocks, arms}
 use Rattle.rules.specs.Lists.{keep, mem}
 use Rattle.rules.specs.Graph as graph
 use Rattle.rules.specs.Graph.{Arm}
-use Rattle.rules.specs.Rotate.{leadIn, cycle, WayOut, turned, rotate}
+use Rattle.rules.specs.Rotate.{lead_in, cycle, WayOut, turned, rotate}
 use Rattle.rules.proofs.Membership.{In}
 use Rattle.records.specs.declared.Arms.{Arms}
 use Rattle.records.specs.declared.Graph.{Graph}
@@ -35,20 +35,20 @@ pub record Finds (order : List ℕ) (s e x r : ℕ) : Type 0 where
   pub low : s ≤ r
   pub high : r ≤ e
   pub found : mem x (slice s e order) ≡ ltb r e
-  pub before : leadIn x (slice s e order) ≡ slice s r order
+  pub before : lead_in x (slice s e order) ≡ slice s r order
   pub from : cycle x (slice s e order) ≡ slice r e order
 
 -- ---- the ways out
 -- the tables that the ways out are found by
 pub record Outs (first count to heft seen starts inside : List ℕ) : Type 0 where
-  pub first-sized : length first ≡ blocks
-  pub count-sized : length count ≡ blocks
-  pub to-sized : length to ≡ arms
-  pub heft-sized : length heft ≡ arms
+  pub first_sized : length first ≡ blocks
+  pub count_sized : length count ≡ blocks
+  pub to_sized : length to ≡ arms
+  pub heft_sized : length heft ≡ arms
   pub fits : (n : ℕ) → get_or first n 0 + get_or count n 0 ≤ arms
-  pub seen-sized : length seen ≡ room
-  pub starts-sized : length starts ≡ room
-  pub inside-sized : length inside ≡ room
+  pub seen_sized : length seen ≡ room
+  pub starts_sized : length starts ≡ room
+  pub inside_sized : length inside ≡ room
 
 -- a way out, by what it is compared by and the place of its block in the part
 abbrev pub way : ℕ → ℕ → ℕ → WayOut
@@ -69,10 +69,10 @@ ways_at preferred inside i l =
     cond (leb (length l) 2) (map (λ (a : Arm). way (cond (preferred a.to) 1 0) a.weight i) (keep (λ (a : Arm). not (inside a.to)) l)) []
 
 -- those of blocks that stand at place i of the part and behind, by the tables of arms
-unfoldable pub waysFrom : Arms → (ℕ → Bool) → (ℕ → Bool) → ℕ → List ℕ → List WayOut
+unfoldable pub ways_from : Arms → (ℕ → Bool) → (ℕ → Bool) → ℕ → List ℕ → List WayOut
 unfolding ways_at leaves
-waysFrom a preferred inside i [] = []
-waysFrom a preferred inside i (n ∷ l) = ways_at preferred inside i (leaves a n) ++ waysFrom a preferred inside (i + 1) l
+ways_from a preferred inside i [] = []
+ways_from a preferred inside i (n ∷ l) = ways_at preferred inside i (leaves a n) ++ ways_from a preferred inside (i + 1) l
 
 -- ---- the trace as it ends
 -- all of the trace are blocks of t

@@ -1,19 +1,21 @@
 // A trace that ends in a loop is turned as it ends, so that the loop is left by falling through. The part that turns
 // starts where the last block's heaviest arm goes, and its best way out becomes its end. That arm must have more than
 // four fifths of its target's weight: a loop that is seldom gone round stays as it is.
+#![tactic(auto)]
+
 ghost use Rattle.std.specs.Prelude.{◌≡◌, not, cond, ◌&&◌, List, [], ◌∷◌, ◌++◌, ℕ, ◌+◌, ◌≤◌, ◌<◌, eqb, length, get_or, take, drop};
 ghost use Rattle.std.proofs.Math.Option.{none};
 ghost use Rattle.std.proofs.Math.Seq.{slice, paste};
 ghost use Rattle.limits.specs.Limits.{blocks, arms};
 ghost use Rattle.rules.specs.Lists.{any, best};
-ghost use Rattle.rules.specs.Graph.{isWalking};
-ghost use Rattle.rules.specs.Weights.{overFourFifths};
-ghost use Rattle.rules.specs.Rotate.{backArm, worse};
+ghost use Rattle.rules.specs.Graph.{is_walking};
+ghost use Rattle.rules.specs.Weights.{over_four_fifths};
+ghost use Rattle.rules.specs.Rotate.{back_arm, worse};
 ghost use Rattle.records.specs.declared.Blocks.{Blocks};
-ghost use Rattle.records.specs.Tables.{armTables, leaves, block_at};
+ghost use Rattle.records.specs.Tables.{arm_tables, leaves, block_at};
 ghost use Rattle.marks.specs.Sets.{room, member};
-ghost use Rattle.flow.specs.Lent.{Sized, Marks, armOf};
-ghost use Rattle.rotate.specs.Turning.{TraceAt, Held, Finds, Outs, way, way_of, liked, ways_at, waysFrom, Turns, Rotated};
+ghost use Rattle.flow.specs.Lent.{Sized, Marks, arm_of};
+ghost use Rattle.rotate.specs.Turning.{TraceAt, Held, Finds, Outs, way, way_of, liked, ways_at, ways_from, Turns, Rotated};
 
 use flow::Choice;
 use limits::{ARMS, BLOCKS};
@@ -34,7 +36,7 @@ fn back_arm<'a>(
 ) -> Choice
     requires { (length first.now ≡ blocks) × (length count.now ≡ blocks) × (length heft.now ≡ arms) × (get_or first.now n 0 + get_or count.now n 0 ≤ arms) }
     ensures held { Held result }
-    ensures result_value { (of : Blocks) (to args : List ℕ) → armOf (armTables first.now count.now to args heft.now) result ≡ backArm (block_at of (armTables first.now count.now to args heft.now) n) }
+    ensures result_value { (of : Blocks) (to args : List ℕ) → arm_of (arm_tables first.now count.now to args heft.now) result ≡ back_arm (block_at of (arm_tables first.now count.now to args heft.now) n) }
 {
     let f = lists::entry_of(first, n);
     let c = lists::entry_of(count, n);
@@ -69,7 +71,7 @@ fn find(order: &[u16; BLOCKS], s: usize, e: usize, x: u16) -> usize
 }
 
 fn is_walking(marks: u8) -> bool
-    ensures { result ≡ isWalking marks }
+    ensures { result ≡ is_walking marks }
 {
     marks / 64 % 2 == 1
 }
@@ -77,7 +79,7 @@ fn is_walking(marks: u8) -> bool
 // Whether a block from place p up to e is walking.
 fn walks<'a>(marks: &'a [u8; BLOCKS], order: &'a [u16; BLOCKS], p: usize, e: usize) -> bool
     requires { (p ≤ e) × (e ≤ blocks) × (length marks.now ≡ blocks) × (length order.now ≡ blocks) }
-    ensures { result ≡ any (λ (n : ℕ). isWalking (get_or marks.now n 0)) (slice p e order.now) }
+    ensures { result ≡ any (λ (n : ℕ). is_walking (get_or marks.now n 0)) (slice p e order.now) }
 {
     let mut i = p;
     while i < e {
@@ -103,7 +105,7 @@ fn turns<'a>(
     e: usize,
 ) -> bool
     requires { (p ≤ e) × (e ≤ blocks) × (length marks.now ≡ blocks) × (length weight.now ≡ blocks) × (length order.now ≡ blocks) }
-    ensures { result ≡ not (eqb x last) && not (eqb x entry) && overFourFifths arm (get_or weight.now x 0) && not (any (λ (n : ℕ). isWalking (get_or marks.now n 0)) (slice p e order.now)) }
+    ensures { result ≡ not (eqb x last) && not (eqb x entry) && over_four_fifths arm (get_or weight.now x 0) && not (any (λ (n : ℕ). is_walking (get_or marks.now n 0)) (slice p e order.now)) }
 {
     if x == last {
         return false;
@@ -207,7 +209,7 @@ fn exits_at<'a>(
     so: Out,
 ) -> Out
     requires { Outs first.now count.now to.now heft.now seen.now starts.now inside.now }
-    ensures { (args : List ℕ) → way_of result ≡ best worse (way_of so) (ways_at (liked seen.now starts.now) (member inside.now) index (leaves (armTables first.now count.now to.now args heft.now) n)) }
+    ensures { (args : List ℕ) → way_of result ≡ best worse (way_of so) (ways_at (liked seen.now starts.now) (member inside.now) index (leaves (arm_tables first.now count.now to.now args heft.now) n)) }
 {
     let f = lists::entry_of(first, n);
     let c = lists::entry_of(count, n);
@@ -243,7 +245,7 @@ fn best_exit<'a>(
 ) -> Out
     requires outs { Outs first.now count.now to.now heft.now seen.now starts.now inside.now }
     requires p_le_e { (p ≤ e) × (e ≤ blocks) × (length order.now ≡ blocks) }
-    ensures { (args : List ℕ) → way_of result ≡ best worse none (waysFrom (armTables first.now count.now to.now args heft.now) (liked seen.now starts.now) (member inside.now) 0 (slice p e order.now)) }
+    ensures { (args : List ℕ) → way_of result ≡ best worse none (ways_from (arm_tables first.now count.now to.now args heft.now) (liked seen.now starts.now) (member inside.now) 0 (slice p e order.now)) }
 {
     let mut found = Out::Nothing;
     let mut i = p;

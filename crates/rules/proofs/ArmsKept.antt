@@ -1,4 +1,4 @@
--- THEOREM arms-kept: the laid list is the blocks of the order, each with the arms that it had, or the first two exchanged, or one
+-- THEOREM arms_kept: the laid list is the blocks of the order, each with the arms that it had, or the first two exchanged, or one
 -- taken by a bridge that stands directly after it; passed through the bridge, that arm is the block's own. Assumes nothing.
 use Prim.Native.Nat.{ℕ, zero, suc, ◌+◌, ◌<◌}
 use native.Mathlib.Omega.{arith}
@@ -11,9 +11,9 @@ use lib.ListN.{length, get_or}
 use Rattle.limits.specs.Limits.{numbers}
 use Rattle.rules.specs.declared.Leaving.{Leaving}
 use Rattle.rules.specs.declared.Leaving.TheVariants.{Nothing, Jump, Branch, Exchanged, Bridge}
-use Rattle.rules.specs.Graph.{Arm, Block, Graph, block_at, withArms}
-use Rattle.rules.specs.Split.{splits, warmPart, coldPart, partition}
-use Rattle.rules.specs.Exits.{edges, Place, no_arm, setArm, swapped, armsLeft, laidBlock, bridgeFor, bridgeOf, newAfter, nextIn, layPart, bridges, warmPlaces, lay}
+use Rattle.rules.specs.Graph.{Arm, Block, Graph, block_at, with_arms}
+use Rattle.rules.specs.Split.{splits, warm_part, cold_part, partition}
+use Rattle.rules.specs.Exits.{edges, Place, no_arm, set_arm, swapped, arms_left, laid_block, bridge_for, bridge_of, new_after, next_in, lay_part, bridges, warm_places, lay}
 use Rattle.rules.specs.Laid.{ordered, readied, layout}
 use Rattle.rules.proofs.Membership.{pick_ind}
 
@@ -38,28 +38,28 @@ edges_fit next end (x ∷ y ∷ l) =
     F : Leaving → Type 0
     F = Fits (suc (suc (length l)))
 
-set_back : (i : ℕ) (a : Arm) (l : List Arm) → i < length l → setArm i (get_or l i no_arm) (setArm i a l) ≡ l
-unfolding setArm
+set_back : (i : ℕ) (a : Arm) (l : List Arm) → i < length l → set_arm i (get_or l i no_arm) (set_arm i a l) ≡ l
+unfolding set_arm
 set_back i a [] h = refl
 set_back zero a (x ∷ l) h = refl
 set_back (suc i) a (x ∷ l) h = ap (λ (r : List Arm). x ∷ r) (set_back i a l (omega arith))
 
-set-get : (i : ℕ) (a : Arm) (l : List Arm) → i < length l → get_or (setArm i a l) i no_arm ≡ a
-unfolding setArm
-set-get i a [] h = absurd (omega arith)
-set-get zero a (x ∷ l) h = refl
-set-get (suc i) a (x ∷ l) h = set-get i a l (omega arith)
+set_get : (i : ℕ) (a : Arm) (l : List Arm) → i < length l → get_or (set_arm i a l) i no_arm ≡ a
+unfolding set_arm
+set_get i a [] h = absurd (omega arith)
+set_get zero a (x ∷ l) h = refl
+set_get (suc i) a (x ∷ l) h = set_get i a l (omega arith)
 
 -- a block with its arms kept
 pub record Alone (b : Block) (p : Place) : Type 0 where
-  pub block : p.isBridge ≡ false
+  pub block : p.is_bridge ≡ false
   pub number : p.block.number ≡ b.number
   pub arms : (p.block.arms ≡ b.arms) ⊎ (p.block.arms ≡ swapped b.arms)
 
 -- a block and the bridge that takes one of its arms
 pub record Spanned (b : Block) (p q : Place) : Type 0 where
-  pub block : p.isBridge ≡ false
-  pub bridge : q.isBridge ≡ true
+  pub block : p.is_bridge ≡ false
+  pub bridge : q.is_bridge ≡ true
   pub number : p.block.number ≡ b.number
   pub index : ℕ
   pub inside : index < length b.arms
@@ -68,24 +68,24 @@ pub record Spanned (b : Block) (p q : Place) : Type 0 where
   pub weighs : q.block.weight ≡ (get_or b.arms index no_arm).weight
   -- "the block's arm becomes a plain one to it of the same weight"
   pub into : get_or p.block.arms index no_arm ≡ record { to = q.block.number; args = 0; weight = q.block.weight }
-  pub through : setArm index (get_or b.arms index no_arm) p.block.arms ≡ b.arms
+  pub through : set_arm index (get_or b.arms index no_arm) p.block.arms ≡ b.arms
 
 pub data Kept (g : Graph) : List ℕ → List Place → Type 0 where
   ended : Kept g [] []
   alone : (n : ℕ) (o : List ℕ) (p : Place) (l : List Place) → Alone (block_at g n) p → Kept g o l → Kept g (n ∷ o) (p ∷ l)
   spanned : (n : ℕ) (o : List ℕ) (p q : Place) (l : List Place) → Spanned (block_at g n) p q → Kept g o l → Kept g (n ∷ o) (p ∷ q ∷ l)
 
-pub part-kept : (g : Graph) (cold : Bool) (new : ℕ) (o : List ℕ) → Kept g o (layPart g cold new o)
-unfolding layPart laidBlock bridgeOf bridgeFor armsLeft withArms
-part-kept g cold new [] = ended
-part-kept g cold new (n ∷ l) =
-    go (λ m. part-kept g cold m l) (edges (nextIn l) (block_at g n).end (block_at g n).arms) (edges_fit (nextIn l) (block_at g n).end (block_at g n).arms)
+pub part_kept : (g : Graph) (cold : Bool) (new : ℕ) (o : List ℕ) → Kept g o (lay_part g cold new o)
+unfolding lay_part laid_block bridge_of bridge_for arms_left with_arms
+part_kept g cold new [] = ended
+part_kept g cold new (n ∷ l) =
+    go (λ m. part_kept g cold m l) (edges (next_in l) (block_at g n).end (block_at g n).arms) (edges_fit (next_in l) (block_at g n).end (block_at g n).arms)
   where
     b : Block
     b = block_at g n
 
-    go : ((m : ℕ) → Kept g l (layPart g cold m l)) → (v : Leaving) → Fits (length (block_at g n).arms) v
-        → Kept g (n ∷ l) (laidBlock new (block_at g n) v ∷ (bridgeOf new cold (block_at g n) v ++ layPart g cold (newAfter new v) l))
+    go : ((m : ℕ) → Kept g l (lay_part g cold m l)) → (v : Leaving) → Fits (length (block_at g n).arms) v
+        → Kept g (n ∷ l) (laid_block new (block_at g n) v ∷ (bridge_of new cold (block_at g n) v ++ lay_part g cold (new_after new v) l))
     go ih Nothing f = alone _ _ _ _ (record { block = refl; number = refl; arms = inl refl }) (ih new)
     go ih Jump f = alone _ _ _ _ (record { block = refl; number = refl; arms = inl refl }) (ih new)
     go ih Branch f = alone _ _ _ _ (record { block = refl; number = refl; arms = inl refl }) (ih new)
@@ -100,7 +100,7 @@ part-kept g cold new (n ∷ l) =
           inside = f;
           taken = refl;
           weighs = refl;
-          into = set-get i _ (block_at g n).arms f;
+          into = set_get i _ (block_at g n).arms f;
           through = set_back i _ (block_at g n).arms f;
         })
         (ih (suc new))
@@ -110,21 +110,21 @@ kept_append g o₁ o₂ l₁ l₂ ended k = k
 kept_append g o₁ o₂ l₁ l₂ (alone n o p l a h) k = alone n (o ++ o₂) p (l ++ l₂) a (kept_append g o o₂ l l₂ h k)
 kept_append g o₁ o₂ l₁ l₂ (spanned n o p q l s h) k = spanned n (o ++ o₂) p q (l ++ l₂) s (kept_append g o o₂ l l₂ h k)
 
-pub lay-kept : (g : Graph) (o : List ℕ) → Kept g (partition g o) (lay g o)
-unfolding lay partition warmPlaces
-lay-kept g o = go (splits g)
+pub lay_kept : (g : Graph) (o : List ℕ) → Kept g (partition g o) (lay g o)
+unfolding lay partition warm_places
+lay_kept g o = go (splits g)
   where
     w : List Place
-    w = layPart g false numbers (warmPart g o)
+    w = lay_part g false numbers (warm_part g o)
 
     c : List Place
-    c = layPart g true (numbers + bridges w) (coldPart g o)
+    c = lay_part g true (numbers + bridges w) (cold_part g o)
 
-    go : (b : Bool) → Kept g (elim b as (λ (x : Bool). List ℕ) [ false ↦ o | true ↦ warmPart g o ++ coldPart g o ])
-        (elim b as (λ (x : Bool). List Place) [ false ↦ layPart g false numbers o | true ↦ w ++ c ])
-    go false = part-kept g false numbers o
-    go true = kept_append g (warmPart g o) (coldPart g o) w c (part-kept g false numbers (warmPart g o)) (part-kept g true (numbers + bridges w) (coldPart g o))
+    go : (b : Bool) → Kept g (elim b as (λ (x : Bool). List ℕ) [ false ↦ o | true ↦ warm_part g o ++ cold_part g o ])
+        (elim b as (λ (x : Bool). List Place) [ false ↦ lay_part g false numbers o | true ↦ w ++ c ])
+    go false = part_kept g false numbers o
+    go true = kept_append g (warm_part g o) (cold_part g o) w c (part_kept g false numbers (warm_part g o)) (part_kept g true (numbers + bridges w) (cold_part g o))
 
-pub arms-kept : (f r : Bool) (g : Graph) → Kept (readied f g) (partition (readied f g) (ordered r (readied f g))) (layout f r g)
+pub arms_kept : (f r : Bool) (g : Graph) → Kept (readied f g) (partition (readied f g) (ordered r (readied f g))) (layout f r g)
 unfolding layout
-arms-kept f r g = lay-kept (readied f g) (ordered r (readied f g))
+arms_kept f r g = lay_kept (readied f g) (ordered r (readied f g))

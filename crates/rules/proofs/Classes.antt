@@ -6,11 +6,11 @@ use mathlib.Core.Bool.{Bool, not, ◌&&◌}
 use mathlib.Core.Logic.{◌↔◌}
 use lib.Dec.{T, eqb, T_not, not_T, eqb→eq, eqb_refl}
 use Rattle.rules.specs.Lists.{mem}
-use Rattle.rules.specs.Graph.{Block, Graph, numbersOf}
+use Rattle.rules.specs.Graph.{Block, Graph, numbers_of}
 use Rattle.rules.specs.Heads.{reach, together, looped}
 use Rattle.rules.proofs.Membership.{In, and_l, and_r, and_i, any→, →any, In-map}
 use Rattle.rules.proofs.Wholeness.{Whole}
-use Rattle.rules.proofs.Chains.{Chain, reach-sound, reach-complete}
+use Rattle.rules.proofs.Chains.{Chain, reach_sound, reach_complete}
 
 -- another block of the class of block n
 pub record Other (g : Graph) (n : ℕ) : Type 0 where
@@ -21,24 +21,24 @@ pub record Other (g : Graph) (n : ℕ) : Type 0 where
   pub back : Chain g block.number n
 
 module _ (g : Graph) (w : Whole g) where
-  pub classes : (n m : ℕ) → In n (numbersOf g) → In m (numbersOf g) → T (together g n m) ↔ (Chain g n m × Chain g m n)
+  pub classes : (n m : ℕ) → In n (numbers_of g) → In m (numbers_of g) → T (together g n m) ↔ (Chain g n m × Chain g m n)
   unfolding together
   classes n m i j = (to, back)
     where
       to : T (together g n m) → Chain g n m × Chain g m n
-      to t = (reach-sound g n m (and_l (mem m (reach g n)) (mem n (reach g m)) t), reach-sound g m n (and_r (mem m (reach g n)) (mem n (reach g m)) t))
+      to t = (reach_sound g n m (and_l (mem m (reach g n)) (mem n (reach g m)) t), reach_sound g m n (and_r (mem m (reach g n)) (mem n (reach g m)) t))
 
       back : Chain g n m × Chain g m n → T (together g n m)
-      back c = and_i (mem m (reach g n)) (mem n (reach g m)) (reach-complete g w n i m c.0) (reach-complete g w m j n c.1)
+      back c = and_i (mem m (reach g n)) (mem n (reach g m)) (reach_complete g w n i m c.0) (reach_complete g w m j n c.1)
 
-  pub looped-exact : (n : ℕ) → In n (numbersOf g) → T (looped g n) ↔ Other g n
-  unfolding looped numbersOf
-  looped-exact n i = (to, back)
+  pub looped_exact : (n : ℕ) → In n (numbers_of g) → T (looped g n) ↔ Other g n
+  unfolding looped numbers_of
+  looped_exact n i = (to, back)
     where
       p : Block → Bool
       p b = not (eqb b.number n) && together g n b.number
 
-      number_in : (b : Block) → In b g → In b.number (numbersOf g)
+      number_in : (b : Block) → In b g → In b.number (numbers_of g)
       number_in b j = In-map (λ (x : Block). x.number) g b j
 
       to : T (looped g n) → Other g n

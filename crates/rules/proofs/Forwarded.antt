@@ -10,68 +10,68 @@ use mathlib.Core.Option.{Option, none, some}
 use lib.Dec.{eqb, eqb→eq}
 use lib.ListN.{length}
 use Rattle.rules.specs.Lists.{any, find, mem}
-use Rattle.rules.specs.Graph.{Arm, Block, Graph, bit, isEntry, isCold, isDead, isAddressed, no_block, block_at, numbersOf, targets, entry, withArms}
+use Rattle.rules.specs.Graph.{Arm, Block, Graph, bit, is_entry, is_cold, is_dead, is_addressed, no_block, block_at, numbers_of, targets, entry, with_arms}
 use Rattle.rules.specs.Ours.{ours}
-use Rattle.rules.specs.Forward.{through, leavesAt, goal, movedArms, movedBlock, movedAll, entered, clearedBlock, forward}
-use Rattle.rules.specs.Spread.{coldSet, chilled, spread}
+use Rattle.rules.specs.Forward.{through, leaves_at, goal, moved_arms, moved_block, moved_all, entered, cleared_block, forward}
+use Rattle.rules.specs.Spread.{cold_set, chilled, spread}
 use Rattle.rules.specs.Laid.{readied}
 use Rattle.rules.proofs.Membership.{In, map-In}
 use Rattle.rules.proofs.Wholeness.{Whole, block_in}
-use Rattle.rules.proofs.WaysThrough.{way-through}
+use Rattle.rules.proofs.WaysThrough.{way_through}
 
 -- ---- a block by its number, listed or not
-pub block-or : (g : Graph) (n : ℕ) → In n (numbersOf g) ⊎ (block_at g n ≡ no_block)
-unfolding numbersOf block_at find
-block-or [] n = inr refl
-block-or (x ∷ g) n = go (block-or g n) (eqb x.number n) refl
+pub block_or : (g : Graph) (n : ℕ) → In n (numbers_of g) ⊎ (block_at g n ≡ no_block)
+unfolding numbers_of block_at find
+block_or [] n = inr refl
+block_or (x ∷ g) n = go (block_or g n) (eqb x.number n) refl
   where
-    go : In n (numbersOf g) ⊎ (block_at g n ≡ no_block) → (b : Bool) → eqb x.number n ≡ b → In n (numbersOf (x ∷ g)) ⊎ (cond b x (block_at g n) ≡ no_block)
+    go : In n (numbers_of g) ⊎ (block_at g n ≡ no_block) → (b : Bool) → eqb x.number n ≡ b → In n (numbers_of (x ∷ g)) ⊎ (cond b x (block_at g n) ≡ no_block)
     go ih true e = inl (inl (sym (eqb→eq x.number n (rw e tt))))
     go ih false e = ⊎_elim (λ i. inl (inr i)) (λ q. inr q) ih
 
 -- ---- ways through
-pub through-in : (b : Block) (t : ℕ) → through b ≡ some t → In t (targets b)
+pub through_in : (b : Block) (t : ℕ) → through b ≡ some t → In t (targets b)
 unfolding targets
-through-in b t e = let w = (way-through b t).0 e in rw w.only (inl (sym w.to))
+through_in b t e = let w = (way_through b t).0 e in rw w.only (inl (sym w.to))
 
-no-through : (t : ℕ) → through no_block ≡ some t → ⊥
+no_through : (t : ℕ) → through no_block ≡ some t → ⊥
 unfolding targets no_block
-no-through t e = through-in no_block t e
+no_through t e = through_in no_block t e
 
 -- a way through is listed
-pub through-listed : (g : Graph) (n t : ℕ) → through (block_at g n) ≡ some t → In n (numbersOf g)
-through-listed g n t e = ⊎_elim (λ i. i) (λ q. absurd (no-through t (ap through (sym q) ∙ e))) (block-or g n)
+pub through_listed : (g : Graph) (n t : ℕ) → through (block_at g n) ≡ some t → In n (numbers_of g)
+through_listed g n t e = ⊎_elim (λ i. i) (λ q. absurd (no_through t (ap through (sym q) ∙ e))) (block_or g n)
 
 module _ (g : Graph) (w : Whole g) where
   -- where a way through leads is listed
-  pub through-target : (n t : ℕ) → through (block_at g n) ≡ some t → In t (numbersOf g)
-  through-target n t e = w (block_at g n) (block_in g n (through-listed g n t e)).0 t (through-in (block_at g n) t e)
+  pub through_target : (n t : ℕ) → through (block_at g n) ≡ some t → In t (numbers_of g)
+  through_target n t e = w (block_at g n) (block_in g n (through_listed g n t e)).0 t (through_in (block_at g n) t e)
 
-  leaves-listed : (k n m : ℕ) → In n (numbersOf g) → leavesAt g k n ≡ some m → In m (numbersOf g)
-  unfolding leavesAt
-  leaves-listed zero n m i e = absurd (let z : ◌≡◌ {A = ℕ} 0 1 = cc in omega arith)
-  leaves-listed (suc k) n m i e = go (λ t. leaves-listed k t m) (through (block_at g n)) refl e
+  leaves_listed : (k n m : ℕ) → In n (numbers_of g) → leaves_at g k n ≡ some m → In m (numbers_of g)
+  unfolding leaves_at
+  leaves_listed zero n m i e = absurd (let z : ◌≡◌ {A = ℕ} 0 1 = cc in omega arith)
+  leaves_listed (suc k) n m i e = go (λ t. leaves_listed k t m) (through (block_at g n)) refl e
     where
-      go : ((t : ℕ) → In t (numbersOf g) → leavesAt g k t ≡ some m → In m (numbersOf g)) → (o : Option ℕ) → through (block_at g n) ≡ o
-          → (elim o as (λ (x : Option ℕ). Option ℕ) [ none ↦ some n | some t ↦ leavesAt g k t ]) ≡ some m → In m (numbersOf g)
-      go ih none q e = let r : n ≡ m = cc in subst (λ (x : ℕ). In x (numbersOf g)) r i
-      go ih (some t) q e = ih t (through-target n t q) e
+      go : ((t : ℕ) → In t (numbers_of g) → leaves_at g k t ≡ some m → In m (numbers_of g)) → (o : Option ℕ) → through (block_at g n) ≡ o
+          → (elim o as (λ (x : Option ℕ). Option ℕ) [ none ↦ some n | some t ↦ leaves_at g k t ]) ≡ some m → In m (numbers_of g)
+      go ih none q e = let r : n ≡ m = cc in subst (λ (x : ℕ). In x (numbers_of g)) r i
+      go ih (some t) q e = ih t (through_target n t q) e
 
-  pub goal-listed : (n m : ℕ) → goal g n ≡ some m → In m (numbersOf g)
+  pub goal_listed : (n m : ℕ) → goal g n ≡ some m → In m (numbers_of g)
   unfolding goal
-  goal-listed n m e = go (through (block_at g n)) refl e
+  goal_listed n m e = go (through (block_at g n)) refl e
     where
-      go : (o : Option ℕ) → through (block_at g n) ≡ o → (elim o as (λ (x : Option ℕ). Option ℕ) [ none ↦ none | some t ↦ leavesAt g (length g) t ]) ≡ some m → In m (numbersOf g)
+      go : (o : Option ℕ) → through (block_at g n) ≡ o → (elim o as (λ (x : Option ℕ). Option ℕ) [ none ↦ none | some t ↦ leaves_at g (length g) t ]) ≡ some m → In m (numbers_of g)
       go none q e = absurd (let z : ◌≡◌ {A = ℕ} 0 1 = cc in omega arith)
-      go (some t) q e = leaves-listed (length g) t m (through-target n t q) e
+      go (some t) q e = leaves_listed (length g) t m (through_target n t q) e
 
   -- ---- moved arms
-  moved-target : (done l : List Arm) (c : ℕ) → ((x : ℕ) → In x (map (λ (a : Arm). a.to) l) → In x (numbersOf g))
-      → In c (map (λ (a : Arm). a.to) (movedArms (goal g) done l)) → In c (numbersOf g)
-  unfolding movedArms
-  moved-target done [] c h i = absurd i
-  moved-target done (a ∷ l) c h i =
-      go (goal g a.to) refl (λ b. moved-target (done ++ (b ∷ [])) l c (λ x j. h x (inr j))) i
+  moved_target : (done l : List Arm) (c : ℕ) → ((x : ℕ) → In x (map (λ (a : Arm). a.to) l) → In x (numbers_of g))
+      → In c (map (λ (a : Arm). a.to) (moved_arms (goal g) done l)) → In c (numbers_of g)
+  unfolding moved_arms
+  moved_target done [] c h i = absurd i
+  moved_target done (a ∷ l) c h i =
+      go (goal g a.to) refl (λ b. moved_target (done ++ (b ∷ [])) l c (λ x j. h x (inr j))) i
     where
       here : (o : Option ℕ) → Arm
       here o = elim o as (λ (x : Option ℕ). Arm) [
@@ -81,129 +81,129 @@ module _ (g : Graph) (w : Whole g) where
       ]
 
       Rest : Arm → Type 0
-      Rest b = In c (map (λ (a : Arm). a.to) (movedArms (goal g) (done ++ (b ∷ [])) l)) → In c (numbersOf g)
+      Rest b = In c (map (λ (a : Arm). a.to) (moved_arms (goal g) (done ++ (b ∷ [])) l)) → In c (numbers_of g)
 
       pass : (m : ℕ) → goal g a.to ≡ some m → (t : Bool)
-          → (c ≡ (elim t as (λ (x : Bool). Arm) [ true ↦ a | false ↦ record { to = m; args = a.args; weight = a.weight } ]).to) → In c (numbersOf g)
+          → (c ≡ (elim t as (λ (x : Bool). Arm) [ true ↦ a | false ↦ record { to = m; args = a.args; weight = a.weight } ]).to) → In c (numbers_of g)
       pass m q true e = h c (inl e)
-      pass m q false e = subst (λ (x : ℕ). In x (numbersOf g)) (sym e) (goal-listed a.to m q)
+      pass m q false e = subst (λ (x : ℕ). In x (numbers_of g)) (sym e) (goal_listed a.to m q)
 
-      go : (o : Option ℕ) → goal g a.to ≡ o → ((b : Arm) → Rest b) → In c (map (λ (a : Arm). a.to) (here o ∷ movedArms (goal g) (done ++ (here o ∷ [])) l)) → In c (numbersOf g)
+      go : (o : Option ℕ) → goal g a.to ≡ o → ((b : Arm) → Rest b) → In c (map (λ (a : Arm). a.to) (here o ∷ moved_arms (goal g) (done ++ (here o ∷ [])) l)) → In c (numbers_of g)
       go none q ih (inl e) = h c (inl e)
       go (some m) q ih (inl e) = pass m q (any (λ (x : Arm). eqb x.to m) (done ++ (a ∷ l))) e
       go o q ih (inr j) = ih (here o) j
 
-  moved-block : (b : Block) → In b g → (c : ℕ) → In c (targets (movedBlock (goal g) b)) → In c (numbersOf g)
-  unfolding movedBlock targets withArms
-  moved-block b i c j = go (ours b) j
+  moved_block_lem : (b : Block) → In b g → (c : ℕ) → In c (targets (moved_block (goal g) b)) → In c (numbers_of g)
+  unfolding moved_block targets with_arms
+  moved_block_lem b i c j = go (ours b) j
     where
-      go : (t : Bool) → In c (map (λ (a : Arm). a.to) (elim t as (λ (x : Bool). Block) [ false ↦ b | true ↦ withArms b (movedArms (goal g) [] b.arms) ]).arms) → In c (numbersOf g)
+      go : (t : Bool) → In c (map (λ (a : Arm). a.to) (elim t as (λ (x : Bool). Block) [ false ↦ b | true ↦ with_arms b (moved_arms (goal g) [] b.arms) ]).arms) → In c (numbers_of g)
       go false j = w b i c j
-      go true j = moved-target [] b.arms c (λ x k. w b i x k) j
+      go true j = moved_target [] b.arms c (λ x k. w b i x k) j
 
 -- ---- numbers
-moved-number : (goals : ℕ → Option ℕ) (b : Block) → (movedBlock goals b).number ≡ b.number
-unfolding movedBlock withArms
-moved-number goals b = go (ours b)
+moved_number : (goals : ℕ → Option ℕ) (b : Block) → (moved_block goals b).number ≡ b.number
+unfolding moved_block with_arms
+moved_number goals b = go (ours b)
   where
-    go : (t : Bool) → (elim t as (λ (x : Bool). Block) [ false ↦ b | true ↦ withArms b (movedArms goals [] b.arms) ]).number ≡ b.number
+    go : (t : Bool) → (elim t as (λ (x : Bool). Block) [ false ↦ b | true ↦ with_arms b (moved_arms goals [] b.arms) ]).number ≡ b.number
     go true = refl
     go false = refl
 
-cleared-number : (goals : ℕ → Option ℕ) (h : Graph) (b : Block) → (clearedBlock goals h b).number ≡ b.number
-unfolding clearedBlock
-cleared-number goals h b = go (goals b.number)
+cleared_number : (goals : ℕ → Option ℕ) (h : Graph) (b : Block) → (cleared_block goals h b).number ≡ b.number
+unfolding cleared_block
+cleared_number goals h b = go (goals b.number)
   where
     bare : Block
-    bare = record { number = b.number; marks = cond (isDead b.marks) b.marks (b.marks + 4); end = b.end; weight = 0; arms = [] }
+    bare = record { number = b.number; marks = cond (is_dead b.marks) b.marks (b.marks + 4); end = b.end; weight = 0; arms = [] }
 
     step : (t : Bool) → (elim t as (λ (x : Bool). Block) [ true ↦ b | false ↦ bare ]).number ≡ b.number
     step true = refl
     step false = refl
 
-    go : (o : Option ℕ) → (elim o as (λ (x : Option ℕ). Block) [ none ↦ b | some m ↦ elim (entered h b.number || isAddressed b.marks) as (λ (x : Bool). Block) [ true ↦ b | false ↦ bare ] ]).number ≡ b.number
+    go : (o : Option ℕ) → (elim o as (λ (x : Option ℕ). Block) [ none ↦ b | some m ↦ elim (entered h b.number || is_addressed b.marks) as (λ (x : Bool). Block) [ true ↦ b | false ↦ bare ] ]).number ≡ b.number
     go none = refl
-    go (some m) = step (entered h b.number || isAddressed b.marks)
+    go (some m) = step (entered h b.number || is_addressed b.marks)
 
-cleared-target : (goals : ℕ → Option ℕ) (h : Graph) (b : Block) (c : ℕ) → In c (targets (clearedBlock goals h b)) → In c (targets b)
-unfolding clearedBlock targets
-cleared-target goals h b c i = go (goals b.number) i
+cleared_target : (goals : ℕ → Option ℕ) (h : Graph) (b : Block) (c : ℕ) → In c (targets (cleared_block goals h b)) → In c (targets b)
+unfolding cleared_block targets
+cleared_target goals h b c i = go (goals b.number) i
   where
     bare : Block
-    bare = record { number = b.number; marks = cond (isDead b.marks) b.marks (b.marks + 4); end = b.end; weight = 0; arms = [] }
+    bare = record { number = b.number; marks = cond (is_dead b.marks) b.marks (b.marks + 4); end = b.end; weight = 0; arms = [] }
 
     step : (t : Bool) → In c (targets (elim t as (λ (x : Bool). Block) [ true ↦ b | false ↦ bare ])) → In c (targets b)
     step true i = i
     step false i = absurd i
 
-    go : (o : Option ℕ) → In c (targets (elim o as (λ (x : Option ℕ). Block) [ none ↦ b | some m ↦ elim (entered h b.number || isAddressed b.marks) as (λ (x : Bool). Block) [ true ↦ b | false ↦ bare ] ])) → In c (targets b)
+    go : (o : Option ℕ) → In c (targets (elim o as (λ (x : Option ℕ). Block) [ none ↦ b | some m ↦ elim (entered h b.number || is_addressed b.marks) as (λ (x : Bool). Block) [ true ↦ b | false ↦ bare ] ])) → In c (targets b)
     go none i = i
-    go (some m) i = step (entered h b.number || isAddressed b.marks) i
+    go (some m) i = step (entered h b.number || is_addressed b.marks) i
 
-mapped-numbers : (f : Block → Block) → ((b : Block) → (f b).number ≡ b.number) → (g : Graph) → numbersOf (map f g) ≡ numbersOf g
-unfolding numbersOf
-mapped-numbers f h [] = refl
-mapped-numbers f h (b ∷ g) = ap₂ ◌∷◌ (h b) (mapped-numbers f h g)
+mapped_numbers : (f : Block → Block) → ((b : Block) → (f b).number ≡ b.number) → (g : Graph) → numbers_of (map f g) ≡ numbers_of g
+unfolding numbers_of
+mapped_numbers f h [] = refl
+mapped_numbers f h (b ∷ g) = ap₂ ◌∷◌ (h b) (mapped_numbers f h g)
 
-pub forward-numbers : (g : Graph) → numbersOf (forward g) ≡ numbersOf g
-unfolding forward movedAll
-forward-numbers g =
-    mapped-numbers (clearedBlock (goal g) (movedAll g)) (cleared-number (goal g) (movedAll g)) (movedAll g)
-    ∙ mapped-numbers (movedBlock (goal g)) (moved-number (goal g)) g
+pub forward_numbers : (g : Graph) → numbers_of (forward g) ≡ numbers_of g
+unfolding forward moved_all
+forward_numbers g =
+    mapped_numbers (cleared_block (goal g) (moved_all g)) (cleared_number (goal g) (moved_all g)) (moved_all g)
+    ∙ mapped_numbers (moved_block (goal g)) (moved_number (goal g)) g
 
-pub forward-whole : (g : Graph) → Whole g → Whole (forward g)
-unfolding forward movedAll
-forward-whole g w x i c j =
-    let r = map-In (clearedBlock (goal g) (movedAll g)) (movedAll g) x i in
-    let s = map-In (movedBlock (goal g)) g r.0 r.1 in
-    let k : In c (targets r.0) = cleared-target (goal g) (movedAll g) r.0 c (subst (λ (y : Block). In c (targets y)) r.2 j) in
-    subst (λ (l : List ℕ). In c l) (sym (forward-numbers g))
-    (moved-block g w s.0 s.1 c (subst (λ (y : Block). In c (targets y)) s.2 k))
+pub forward_whole : (g : Graph) → Whole g → Whole (forward g)
+unfolding forward moved_all
+forward_whole g w x i c j =
+    let r = map-In (cleared_block (goal g) (moved_all g)) (moved_all g) x i in
+    let s = map-In (moved_block (goal g)) g r.0 r.1 in
+    let k : In c (targets r.0) = cleared_target (goal g) (moved_all g) r.0 c (subst (λ (y : Block). In c (targets y)) r.2 j) in
+    subst (λ (l : List ℕ). In c l) (sym (forward_numbers g))
+    (moved_block_lem g w s.0 s.1 c (subst (λ (y : Block). In c (targets y)) s.2 k))
 
 -- ---- spread changes marks only
-pub chilled-number : (s : List ℕ) (b : Block) → (chilled s b).number ≡ b.number
+pub chilled_number : (s : List ℕ) (b : Block) → (chilled s b).number ≡ b.number
 unfolding chilled
-chilled-number s b = go (mem b.number s && not (isCold b.marks))
+chilled_number s b = go (mem b.number s && not (is_cold b.marks))
   where
     go : (c : Bool) → (elim c as (λ (x : Bool). Block) [ false ↦ b | true ↦ record { number = b.number; marks = b.marks + 2; end = b.end; weight = b.weight; arms = b.arms } ]).number ≡ b.number
     go true = refl
     go false = refl
 
-pub chilled-arms : (s : List ℕ) (b : Block) → (chilled s b).arms ≡ b.arms
+pub chilled_arms : (s : List ℕ) (b : Block) → (chilled s b).arms ≡ b.arms
 unfolding chilled
-chilled-arms s b = go (mem b.number s && not (isCold b.marks))
+chilled_arms s b = go (mem b.number s && not (is_cold b.marks))
   where
     go : (c : Bool) → (elim c as (λ (x : Bool). Block) [ false ↦ b | true ↦ record { number = b.number; marks = b.marks + 2; end = b.end; weight = b.weight; arms = b.arms } ]).arms ≡ b.arms
     go true = refl
     go false = refl
 
-pub spread-numbers : (g : Graph) → numbersOf (spread g) ≡ numbersOf g
+pub spread_numbers : (g : Graph) → numbers_of (spread g) ≡ numbers_of g
 unfolding spread
-spread-numbers g = mapped-numbers (chilled (coldSet g)) (chilled-number (coldSet g)) g
+spread_numbers g = mapped_numbers (chilled (cold_set g)) (chilled_number (cold_set g)) g
 
-pub spread-whole : (g : Graph) → Whole g → Whole (spread g)
+pub spread_whole : (g : Graph) → Whole g → Whole (spread g)
 unfolding spread targets
-spread-whole g w x i c j =
-    let r = map-In (chilled (coldSet g)) g x i in
-    let e : x.arms ≡ r.0.arms = ap (λ (b : Block). b.arms) r.2 ∙ chilled-arms (coldSet g) r.0 in
-    subst (λ (l : List ℕ). In c l) (sym (spread-numbers g)) (w r.0 r.1 c (subst (λ (l : List Arm). In c (map (λ (a : Arm). a.to) l)) e j))
+spread_whole g w x i c j =
+    let r = map-In (chilled (cold_set g)) g x i in
+    let e : x.arms ≡ r.0.arms = ap (λ (b : Block). b.arms) r.2 ∙ chilled_arms (cold_set g) r.0 in
+    subst (λ (l : List ℕ). In c l) (sym (spread_numbers g)) (w r.0 r.1 c (subst (λ (l : List Arm). In c (map (λ (a : Arm). a.to) l)) e j))
 
 -- ---- the graph that is laid
-pub readied-numbers : (forwarding : Bool) (g : Graph) → numbersOf (readied forwarding g) ≡ numbersOf g
+pub readied_numbers : (forwarding : Bool) (g : Graph) → numbers_of (readied forwarding g) ≡ numbers_of g
 unfolding readied
-readied-numbers true g = spread-numbers (forward g) ∙ forward-numbers g
-readied-numbers false g = spread-numbers g
+readied_numbers true g = spread_numbers (forward g) ∙ forward_numbers g
+readied_numbers false g = spread_numbers g
 
-pub readied-whole : (forwarding : Bool) (g : Graph) → Whole g → Whole (readied forwarding g)
+pub readied_whole : (forwarding : Bool) (g : Graph) → Whole g → Whole (readied forwarding g)
 unfolding readied
-readied-whole true g w = spread-whole (forward g) (forward-whole g w)
-readied-whole false g w = spread-whole g w
+readied_whole true g w = spread_whole (forward g) (forward_whole g w)
+readied_whole false g w = spread_whole g w
 
 -- ---- the entry stays
-mapped-entry : (f : Block → Block) → ((b : Block) → (f b).number ≡ b.number) → ((b : Block) → isEntry (f b).marks ≡ isEntry b.marks) → (g : Graph) → entry (map f g) ≡ entry g
+mapped_entry : (f : Block → Block) → ((b : Block) → (f b).number ≡ b.number) → ((b : Block) → is_entry (f b).marks ≡ is_entry b.marks) → (g : Graph) → entry (map f g) ≡ entry g
 unfolding entry
-mapped-entry f n h [] = refl
-mapped-entry f n h (b ∷ g) = go (mapped-entry f n h g) (isEntry (f b).marks) (isEntry b.marks) (h b)
+mapped_entry f n h [] = refl
+mapped_entry f n h (b ∷ g) = go (mapped_entry f n h g) (is_entry (f b).marks) (is_entry b.marks) (h b)
   where
     go : entry (map f g) ≡ entry g → (x y : Bool) → x ≡ y
         → ◌≡◌ {A = Option ℕ} (elim x [ true ↦ some (f b).number | false ↦ entry (map f g) ]) (elim y [ true ↦ some b.number | false ↦ entry g ])
@@ -212,60 +212,60 @@ mapped-entry f n h (b ∷ g) = go (mapped-entry f n h g) (isEntry (f b).marks) (
     go ih true false e = absurd (true≢false e)
     go ih false true e = absurd (true≢false (sym e))
 
-two-more : (m : ℕ) → isEntry (m + 2) ≡ isEntry m
-unfolding isEntry bit
-two-more m = ap (λ (k : ℕ). eqb k 1) (let e : (m + 2) / 1 % 2 ≡ m / 1 % 2 = omega arith in e)
+two_more : (m : ℕ) → is_entry (m + 2) ≡ is_entry m
+unfolding is_entry bit
+two_more m = ap (λ (k : ℕ). eqb k 1) (let e : (m + 2) / 1 % 2 ≡ m / 1 % 2 = omega arith in e)
 
-four-more : (m : ℕ) → isEntry (m + 4) ≡ isEntry m
-unfolding isEntry bit
-four-more m = ap (λ (k : ℕ). eqb k 1) (let e : (m + 4) / 1 % 2 ≡ m / 1 % 2 = omega arith in e)
+four_more : (m : ℕ) → is_entry (m + 4) ≡ is_entry m
+unfolding is_entry bit
+four_more m = ap (λ (k : ℕ). eqb k 1) (let e : (m + 4) / 1 % 2 ≡ m / 1 % 2 = omega arith in e)
 
-moved-entry : (goals : ℕ → Option ℕ) (b : Block) → isEntry (movedBlock goals b).marks ≡ isEntry b.marks
-unfolding movedBlock withArms
-moved-entry goals b = go (ours b)
+moved_entry : (goals : ℕ → Option ℕ) (b : Block) → is_entry (moved_block goals b).marks ≡ is_entry b.marks
+unfolding moved_block with_arms
+moved_entry goals b = go (ours b)
   where
-    go : (t : Bool) → isEntry (elim t as (λ (x : Bool). Block) [ false ↦ b | true ↦ withArms b (movedArms goals [] b.arms) ]).marks ≡ isEntry b.marks
+    go : (t : Bool) → is_entry (elim t as (λ (x : Bool). Block) [ false ↦ b | true ↦ with_arms b (moved_arms goals [] b.arms) ]).marks ≡ is_entry b.marks
     go true = refl
     go false = refl
 
-cleared-entry : (goals : ℕ → Option ℕ) (h : Graph) (b : Block) → isEntry (clearedBlock goals h b).marks ≡ isEntry b.marks
-unfolding clearedBlock
-cleared-entry goals h b = go (goals b.number)
+cleared_entry : (goals : ℕ → Option ℕ) (h : Graph) (b : Block) → is_entry (cleared_block goals h b).marks ≡ is_entry b.marks
+unfolding cleared_block
+cleared_entry goals h b = go (goals b.number)
   where
-    dead : (t : Bool) → isEntry (cond t b.marks (b.marks + 4)) ≡ isEntry b.marks
+    dead : (t : Bool) → is_entry (cond t b.marks (b.marks + 4)) ≡ is_entry b.marks
     dead true = refl
-    dead false = four-more b.marks
+    dead false = four_more b.marks
 
     bare : Block
-    bare = record { number = b.number; marks = cond (isDead b.marks) b.marks (b.marks + 4); end = b.end; weight = 0; arms = [] }
+    bare = record { number = b.number; marks = cond (is_dead b.marks) b.marks (b.marks + 4); end = b.end; weight = 0; arms = [] }
 
-    step : (t : Bool) → isEntry (elim t as (λ (x : Bool). Block) [ true ↦ b | false ↦ bare ]).marks ≡ isEntry b.marks
+    step : (t : Bool) → is_entry (elim t as (λ (x : Bool). Block) [ true ↦ b | false ↦ bare ]).marks ≡ is_entry b.marks
     step true = refl
-    step false = dead (isDead b.marks)
+    step false = dead (is_dead b.marks)
 
-    go : (o : Option ℕ) → isEntry (elim o as (λ (x : Option ℕ). Block) [ none ↦ b | some m ↦ elim (entered h b.number || isAddressed b.marks) as (λ (x : Bool). Block) [ true ↦ b | false ↦ bare ] ]).marks ≡ isEntry b.marks
+    go : (o : Option ℕ) → is_entry (elim o as (λ (x : Option ℕ). Block) [ none ↦ b | some m ↦ elim (entered h b.number || is_addressed b.marks) as (λ (x : Bool). Block) [ true ↦ b | false ↦ bare ] ]).marks ≡ is_entry b.marks
     go none = refl
-    go (some m) = step (entered h b.number || isAddressed b.marks)
+    go (some m) = step (entered h b.number || is_addressed b.marks)
 
-chilled-entry : (s : List ℕ) (b : Block) → isEntry (chilled s b).marks ≡ isEntry b.marks
+chilled_entry : (s : List ℕ) (b : Block) → is_entry (chilled s b).marks ≡ is_entry b.marks
 unfolding chilled
-chilled-entry s b = go (mem b.number s && not (isCold b.marks))
+chilled_entry s b = go (mem b.number s && not (is_cold b.marks))
   where
-    go : (c : Bool) → isEntry (elim c as (λ (x : Bool). Block) [ false ↦ b | true ↦ record { number = b.number; marks = b.marks + 2; end = b.end; weight = b.weight; arms = b.arms } ]).marks ≡ isEntry b.marks
-    go true = two-more b.marks
+    go : (c : Bool) → is_entry (elim c as (λ (x : Bool). Block) [ false ↦ b | true ↦ record { number = b.number; marks = b.marks + 2; end = b.end; weight = b.weight; arms = b.arms } ]).marks ≡ is_entry b.marks
+    go true = two_more b.marks
     go false = refl
 
-spread-entry : (g : Graph) → entry (spread g) ≡ entry g
+spread_entry : (g : Graph) → entry (spread g) ≡ entry g
 unfolding spread
-spread-entry g = mapped-entry (chilled (coldSet g)) (chilled-number (coldSet g)) (chilled-entry (coldSet g)) g
+spread_entry g = mapped_entry (chilled (cold_set g)) (chilled_number (cold_set g)) (chilled_entry (cold_set g)) g
 
-forward-entry : (g : Graph) → entry (forward g) ≡ entry g
-unfolding forward movedAll
-forward-entry g =
-    mapped-entry (clearedBlock (goal g) (movedAll g)) (cleared-number (goal g) (movedAll g)) (cleared-entry (goal g) (movedAll g)) (movedAll g)
-    ∙ mapped-entry (movedBlock (goal g)) (moved-number (goal g)) (moved-entry (goal g)) g
+forward_entry : (g : Graph) → entry (forward g) ≡ entry g
+unfolding forward moved_all
+forward_entry g =
+    mapped_entry (cleared_block (goal g) (moved_all g)) (cleared_number (goal g) (moved_all g)) (cleared_entry (goal g) (moved_all g)) (moved_all g)
+    ∙ mapped_entry (moved_block (goal g)) (moved_number (goal g)) (moved_entry (goal g)) g
 
-pub readied-entry : (forwarding : Bool) (g : Graph) → entry (readied forwarding g) ≡ entry g
+pub readied_entry : (forwarding : Bool) (g : Graph) → entry (readied forwarding g) ≡ entry g
 unfolding readied
-readied-entry true g = spread-entry (forward g) ∙ forward-entry g
-readied-entry false g = spread-entry g
+readied_entry true g = spread_entry (forward g) ∙ forward_entry g
+readied_entry false g = spread_entry g

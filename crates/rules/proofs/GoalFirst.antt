@@ -1,4 +1,4 @@
--- THEOREM goal-first: a way through has the goal m exactly when m is the first block on its chain that is no way through; so it has
+-- THEOREM goal_first: a way through has the goal m exactly when m is the first block on its chain that is no way through; so it has
 -- none exactly when its chain never leaves. The bound on the chain's length is never met. Assumes nothing.
 use Prim.Native.Nat.{ℕ, zero, suc, ◌≤◌, ◌<◌}
 use native.Mathlib.Omega.{arith}
@@ -9,11 +9,11 @@ use mathlib.Core.Option.{Option, none, some}
 use lib.Dec.{not_T}
 use lib.ListN.{length, length-map}
 use Rattle.rules.specs.Lists.{all, mem}
-use Rattle.rules.specs.Graph.{Block, Graph, block_at, numbersOf}
-use Rattle.rules.specs.Forward.{through, leavesAt, goal}
+use Rattle.rules.specs.Graph.{Block, Graph, block_at, numbers_of}
+use Rattle.rules.specs.Forward.{through, leaves_at, goal}
 use Rattle.rules.proofs.Membership.{In, test, mem→}
-use Rattle.rules.proofs.Counting.{tally, count, Once, count-zero, In→count, fresh, no_longer}
-use Rattle.rules.proofs.Forwarded.{through-listed}
+use Rattle.rules.proofs.Counting.{tally, count, Once, count_zero, In→count, fresh, no_longer}
+use Rattle.rules.proofs.Forwarded.{through_listed}
 
 module _ (g : Graph) where
   -- from block n on, the first block that is no way through is m
@@ -27,13 +27,13 @@ module _ (g : Graph) where
     pub leads : Leads next m
 
   -- ---- the chain is as the search goes
-  search-leads : (k n m : ℕ) → leavesAt g k n ≡ some m → Leads n m
-  unfolding leavesAt
-  search-leads zero n m e = absurd (let z : ◌≡◌ {A = ℕ} 0 1 = cc in omega arith)
-  search-leads (suc k) n m e = go (λ t. search-leads k t m) (through (block_at g n)) refl e
+  search_leads : (k n m : ℕ) → leaves_at g k n ≡ some m → Leads n m
+  unfolding leaves_at
+  search_leads zero n m e = absurd (let z : ◌≡◌ {A = ℕ} 0 1 = cc in omega arith)
+  search_leads (suc k) n m e = go (λ t. search_leads k t m) (through (block_at g n)) refl e
     where
-      go : ((t : ℕ) → leavesAt g k t ≡ some m → Leads t m) → (o : Option ℕ) → through (block_at g n) ≡ o
-          → (elim o as (λ (x : Option ℕ). Option ℕ) [ none ↦ some n | some t ↦ leavesAt g k t ]) ≡ some m → Leads n m
+      go : ((t : ℕ) → leaves_at g k t ≡ some m → Leads t m) → (o : Option ℕ) → through (block_at g n) ≡ o
+          → (elim o as (λ (x : Option ℕ). Option ℕ) [ none ↦ some n | some t ↦ leaves_at g k t ]) ≡ some m → Leads n m
       go ih none q e = let r : n ≡ m = cc in subst (λ (x : ℕ). Leads n x) r (out n q)
       go ih (some t) q e = onward n t m q (ih t e)
 
@@ -46,90 +46,90 @@ module _ (g : Graph) where
   ways n m (out a q) = []
   ways n m (onward a t b q p) = a ∷ ways t b p
 
-  ways-length : (n m : ℕ) (p : Leads n m) → length (ways n m p) ≡ steps n m p
+  ways_length : (n m : ℕ) (p : Leads n m) → length (ways n m p) ≡ steps n m p
   unfolding steps ways
-  ways-length n m (out a q) = refl
-  ways-length n m (onward a t b q p) = ap suc (ways-length t b p)
+  ways_length n m (out a q) = refl
+  ways_length n m (onward a t b q p) = ap suc (ways_length t b p)
 
   -- one block has one chain
-  steps-one : (n m : ℕ) (p : Leads n m) (x y : ℕ) → n ≡ x → (r : Leads x y) → steps n m p ≡ steps x y r
+  steps_one : (n m : ℕ) (p : Leads n m) (x y : ℕ) → n ≡ x → (r : Leads x y) → steps n m p ≡ steps x y r
   unfolding steps
-  steps-one n m (out a q) x y e (out b s) = refl
-  steps-one n m (out a q) x y e (onward b t c s r) = absurd (let h : through (block_at g a) ≡ some t = ap (λ (k : ℕ). through (block_at g k)) e ∙ s in let z : ◌≡◌ {A = ℕ} 0 1 = cc in omega arith)
-  steps-one n m (onward a t c q p) x y e (out b s) = absurd (let h : through (block_at g a) ≡ none = ap (λ (k : ℕ). through (block_at g k)) e ∙ s in let z : ◌≡◌ {A = ℕ} 0 1 = cc in omega arith)
-  steps-one n m (onward a t c q p) x y e (onward b u d s r) =
+  steps_one n m (out a q) x y e (out b s) = refl
+  steps_one n m (out a q) x y e (onward b t c s r) = absurd (let h : through (block_at g a) ≡ some t = ap (λ (k : ℕ). through (block_at g k)) e ∙ s in let z : ◌≡◌ {A = ℕ} 0 1 = cc in omega arith)
+  steps_one n m (onward a t c q p) x y e (out b s) = absurd (let h : through (block_at g a) ≡ none = ap (λ (k : ℕ). through (block_at g k)) e ∙ s in let z : ◌≡◌ {A = ℕ} 0 1 = cc in omega arith)
+  steps_one n m (onward a t c q p) x y e (onward b u d s r) =
       let h : through (block_at g a) ≡ some u = ap (λ (k : ℕ). through (block_at g k)) e ∙ s in
       let f : t ≡ u = cc in
-      ap suc (steps-one t c p u d f r)
+      ap suc (steps_one t c p u d f r)
 
   -- a block of the chain has the rest of it
   rest_of : (n m : ℕ) (p : Leads n m) (x : ℕ) → In x (ways n m p) → (r : Leads x m) × (steps x m r ≤ steps n m p)
   unfolding steps ways
   rest_of n m (out a q) x i = absurd i
-  rest_of n m (onward a t c q p) x (inl e) = (subst (λ (k : ℕ). Leads k c) (sym e) (onward a t c q p), omega (arith, steps-one x c (subst (λ (k : ℕ). Leads k c) (sym e) (onward a t c q p)) a c e (onward a t c q p)))
+  rest_of n m (onward a t c q p) x (inl e) = (subst (λ (k : ℕ). Leads k c) (sym e) (onward a t c q p), omega (arith, steps_one x c (subst (λ (k : ℕ). Leads k c) (sym e) (onward a t c q p)) a c e (onward a t c q p)))
   rest_of n m (onward a t c q p) x (inr i) = let r = rest_of t c p x i in (r.0, omega (arith, r.1))
 
   -- so it passes no block twice
-  ways-once : (n m : ℕ) (p : Leads n m) → Once (ways n m p)
+  ways_once : (n m : ℕ) (p : Leads n m) → Once (ways n m p)
   unfolding ways steps
-  ways-once n m (out a q) k = unfold count tally in omega arith
-  ways-once n m (onward a t c q p) k =
-      fresh a (ways t c p) (ways-once t c p)
+  ways_once n m (out a q) k = unfold count tally in omega arith
+  ways_once n m (onward a t c q p) k =
+      fresh a (ways t c p) (ways_once t c p)
       (not_T (mem a (ways t c p))
       (λ y.
       let r = rest_of t c p a (mem→ a (ways t c p) y) in
-      omega (arith, r.1, steps-one a c r.0 a c refl (onward a t c q p)))) k
+      omega (arith, r.1, steps_one a c r.0 a c refl (onward a t c q p)))) k
 
-  ways-listed : (n m : ℕ) (p : Leads n m) (x : ℕ) → In x (ways n m p) → In x (numbersOf g)
+  ways_listed : (n m : ℕ) (p : Leads n m) (x : ℕ) → In x (ways n m p) → In x (numbers_of g)
   unfolding ways
-  ways-listed n m (out a q) x i = absurd i
-  ways-listed n m (onward a t c q p) x (inl e) = subst (λ (k : ℕ). In k (numbersOf g)) (sym e) (through-listed g a t q)
-  ways-listed n m (onward a t c q p) x (inr i) = ways-listed t c p x i
+  ways_listed n m (out a q) x i = absurd i
+  ways_listed n m (onward a t c q p) x (inl e) = subst (λ (k : ℕ). In k (numbers_of g)) (sym e) (through_listed g a t q)
+  ways_listed n m (onward a t c q p) x (inr i) = ways_listed t c p x i
 
-  steps-few : (n m : ℕ) (p : Leads n m) → steps n m p ≤ length g
-  unfolding numbersOf
-  steps-few n m p =
+  steps_few : (n m : ℕ) (p : Leads n m) → steps n m p ≤ length g
+  unfolding numbers_of
+  steps_few n m p =
       let l = ways n m p in
-      let h : length l ≤ length (numbersOf g) =
-      no_longer l (numbersOf g)
+      let h : length l ≤ length (numbers_of g) =
+      no_longer l (numbers_of g)
       (λ k.
-      ⊎_elim (λ t. omega (arith, ways-once n m p k, In→count k (numbersOf g) (ways-listed n m p k (mem→ k l t)))) (λ f. omega (arith, count-zero k l f)) (test (mem k l))) in
-      omega (arith, h, ways-length n m p, length-map g (λ (b : Block). b.number))
+      ⊎_elim (λ t. omega (arith, ways_once n m p k, In→count k (numbers_of g) (ways_listed n m p k (mem→ k l t)))) (λ f. omega (arith, count_zero k l f)) (test (mem k l))) in
+      omega (arith, h, ways_length n m p, length-map g (λ (b : Block). b.number))
 
   -- ---- the search finds the chain's end
-  leads-search : (n m : ℕ) (p : Leads n m) (k : ℕ) → steps n m p < k → leavesAt g k n ≡ some m
-  unfolding leavesAt steps
-  leads-search n m p zero h = absurd (omega (arith, h))
-  leads-search n m (out a q) (suc k) h = rw (q, leavesAt) refl
-  leads-search n m (onward a t c q p) (suc k) h = rw (q, leavesAt) (leads-search t c p k (omega (arith, h)))
+  leads_search : (n m : ℕ) (p : Leads n m) (k : ℕ) → steps n m p < k → leaves_at g k n ≡ some m
+  unfolding leaves_at steps
+  leads_search n m p zero h = absurd (omega (arith, h))
+  leads_search n m (out a q) (suc k) h = rw (q, leaves_at) refl
+  leads_search n m (onward a t c q p) (suc k) h = rw (q, leaves_at) (leads_search t c p k (omega (arith, h)))
 
   -- THE THEOREM
-  pub goal-first : (n m : ℕ) → (goal g n ≡ some m) ↔ Goal n m
+  pub goal_first : (n m : ℕ) → (goal g n ≡ some m) ↔ Goal n m
   unfolding goal
-  goal-first n m = (λ e. go (through (block_at g n)) refl e, back)
+  goal_first n m = (λ e. go (through (block_at g n)) refl e, back)
     where
-      go : (o : Option ℕ) → through (block_at g n) ≡ o → (elim o as (λ (x : Option ℕ). Option ℕ) [ none ↦ none | some t ↦ leavesAt g (length g) t ]) ≡ some m → Goal n m
+      go : (o : Option ℕ) → through (block_at g n) ≡ o → (elim o as (λ (x : Option ℕ). Option ℕ) [ none ↦ none | some t ↦ leaves_at g (length g) t ]) ≡ some m → Goal n m
       go none q e = absurd (let z : ◌≡◌ {A = ℕ} 0 1 = cc in omega arith)
-      go (some t) q e = record { next = t; way = q; leads = search-leads (length g) t m e }
+      go (some t) q e = record { next = t; way = q; leads = search_leads (length g) t m e }
 
       back : Goal n m → goal g n ≡ some m
       back k =
           let all : Leads n m = onward n k.next m k.way k.leads in
-          let few : suc (steps k.next m k.leads) ≤ length g = unfold steps in steps-few n m all in
-          rw (k.way, goal) (leads-search k.next m k.leads (length g) (omega (arith, few)))
+          let few : suc (steps k.next m k.leads) ≤ length g = unfold steps in steps_few n m all in
+          rw (k.way, goal) (leads_search k.next m k.leads (length g) (omega (arith, few)))
 
   -- "none if the chain never leaves"
-  pub goal-none : (n : ℕ) → goal g n ≡ none → (m : ℕ) → Goal n m → ⊥
-  goal-none n e m k = let h = (goal-first n m).1 k in let z : ◌≡◌ {A = ℕ} 0 1 = cc in omega arith
+  pub goal_none : (n : ℕ) → goal g n ≡ none → (m : ℕ) → Goal n m → ⊥
+  goal_none n e m k = let h = (goal_first n m).1 k in let z : ◌≡◌ {A = ℕ} 0 1 = cc in omega arith
 
   -- a goal is no way through
-  leads-end : (n m : ℕ) → Leads n m → through (block_at g m) ≡ none
-  leads-end n m (out a q) = q
-  leads-end n m (onward a t c q p) = leads-end t c p
+  leads_end : (n m : ℕ) → Leads n m → through (block_at g m) ≡ none
+  leads_end n m (out a q) = q
+  leads_end n m (onward a t c q p) = leads_end t c p
 
-  pub goal-other : (n m : ℕ) → goal g n ≡ some m → m ≡ n → ⊥
-  goal-other n m e q =
-      let k = (goal-first n m).0 e in
-      let h : through (block_at g n) ≡ none = ap (λ (x : ℕ). through (block_at g x)) (sym q) ∙ leads-end k.next m k.leads in
+  pub goal_other : (n m : ℕ) → goal g n ≡ some m → m ≡ n → ⊥
+  goal_other n m e q =
+      let k = (goal_first n m).0 e in
+      let h : through (block_at g n) ≡ none = ap (λ (x : ℕ). through (block_at g x)) (sym q) ∙ leads_end k.next m k.leads in
       let z : ◌≡◌ {A = ℕ} 0 1 = (let w = k.way in cc) in
       omega arith

@@ -6,42 +6,42 @@ use mathlib.Core.Bool.{cond}
 use mathlib.Core.List.{List, [], ◌∷◌}
 use lib.Dec.{eqb}
 use lib.ListN.{length, length-append}
-use Rattle.limits.specs.Limits.{size, marksBelow}
+use Rattle.limits.specs.Limits.{size, marks_below}
 use Rattle.rules.specs.Graph.{Arm, Graph}
-use Rattle.rules.specs.Records.{fields, armBytes, leavingBytes, armsBytes}
-use Rattle.rules.specs.Within.{armTotal}
-use Rattle.rules.specs.Exits.{Place, laidGraph}
-use Rattle.rules.specs.Heads.{headAt}
-use Rattle.rules.specs.Laid.{placeBytes, placesBytes, laidBytes}
+use Rattle.rules.specs.Records.{fields, arm_bytes, leaving_bytes, arms_bytes}
+use Rattle.rules.specs.Within.{arm_total}
+use Rattle.rules.specs.Exits.{Place, laid_graph}
+use Rattle.rules.specs.Heads.{head_at}
+use Rattle.rules.specs.Laid.{place_bytes, places_bytes, laid_bytes}
 
-fields-length : (k b1 b2 b3 b4 b5 weight : ℕ) → length (fields k b1 b2 b3 b4 b5 weight) ≡ size
+fields_length : (k b1 b2 b3 b4 b5 weight : ℕ) → length (fields k b1 b2 b3 b4 b5 weight) ≡ size
 unfolding fields
-fields-length k b1 b2 b3 b4 b5 weight = refl
+fields_length k b1 b2 b3 b4 b5 weight = refl
 
-leaving-length : (from : ℕ) (l : List Arm) → length (leavingBytes from l) ≡ size * length l
-unfolding leavingBytes armBytes
-leaving-length from [] = refl
-leaving-length from (a ∷ l) =
-    length-append (armBytes from a) (leavingBytes from l)
-    ∙ omega (arith, fields-length 2 (from % 256) (a.to % 256) a.args 0 0 a.weight, leaving-length from l)
+leaving_length : (from : ℕ) (l : List Arm) → length (leaving_bytes from l) ≡ size * length l
+unfolding leaving_bytes arm_bytes
+leaving_length from [] = refl
+leaving_length from (a ∷ l) =
+    length-append (arm_bytes from a) (leaving_bytes from l)
+    ∙ omega (arith, fields_length 2 (from % 256) (a.to % 256) a.args 0 0 a.weight, leaving_length from l)
 
-arms-length : (g : Graph) → length (armsBytes g) ≡ size * armTotal g
-unfolding armsBytes armTotal
-arms-length [] = refl
-arms-length (b ∷ g) = length-append (leavingBytes b.number b.arms) (armsBytes g) ∙ omega (arith, leaving-length b.number b.arms, arms-length g)
+arms_length : (g : Graph) → length (arms_bytes g) ≡ size * arm_total g
+unfolding arms_bytes arm_total
+arms_length [] = refl
+arms_length (b ∷ g) = length-append (leaving_bytes b.number b.arms) (arms_bytes g) ∙ omega (arith, leaving_length b.number b.arms, arms_length g)
 
-places-length : (g : Graph) (split i : ℕ) (l : List Place) → length (placesBytes g split i l) ≡ size * length l
-unfolding placesBytes placeBytes
-places-length g split i [] = refl
-places-length g split i (p ∷ l) =
-    length-append (placeBytes g split i p) (placesBytes g split (suc i) l)
+places_length : (g : Graph) (split i : ℕ) (l : List Place) → length (places_bytes g split i l) ≡ size * length l
+unfolding places_bytes place_bytes
+places_length g split i [] = refl
+places_length g split i (p ∷ l) =
+    length-append (place_bytes g split i p) (places_bytes g split (suc i) l)
     ∙ omega (
       arith,
-      fields-length (cond p.isBridge 3 1) (p.block.number % 256) (p.block.marks + cond (headAt g i) marksBelow 0) p.block.end (cond (eqb i split) 1 0) p.exit p.block.weight,
-      places-length g split (suc i) l,
+      fields_length (cond p.is_bridge 3 1) (p.block.number % 256) (p.block.marks + cond (head_at g i) marks_below 0) p.block.end (cond (eqb i split) 1 0) p.exit p.block.weight,
+      places_length g split (suc i) l,
     )
 
-pub laid-length : (split : ℕ) (l : List Place) → length (laidBytes split l) ≡ size * (length l + armTotal (laidGraph l))
-unfolding laidBytes
-laid-length split l =
-    length-append (placesBytes (laidGraph l) split 0 l) (armsBytes (laidGraph l)) ∙ omega (arith, places-length (laidGraph l) split 0 l, arms-length (laidGraph l))
+pub laid_length : (split : ℕ) (l : List Place) → length (laid_bytes split l) ≡ size * (length l + arm_total (laid_graph l))
+unfolding laid_bytes
+laid_length split l =
+    length-append (places_bytes (laid_graph l) split 0 l) (arms_bytes (laid_graph l)) ∙ omega (arith, places_length (laid_graph l) split 0 l, arms_length (laid_graph l))

@@ -112,20 +112,20 @@ unfolding mem
 -- ---- the best of a list is one of it
 
 module _ {A : Type 0} (less : A → A → Bool) where
-  pub best-in : (b : Option A) (l : List A) (x : A) → best less b l ≡ some x → (b ≡ some x) ⊎ In x l
+  pub best_in_lem : (b : Option A) (l : List A) (x : A) → best less b l ≡ some x → (b ≡ some x) ⊎ In x l
   unfolding best
-  best-in b [] x e = inl e
-  best-in none (y ∷ l) x e = ⊎_elim (λ q. inr (inl (cc))) (λ i. inr (inr i)) (best-in (some y) l x e)
-  best-in (some b) (y ∷ l) x e = go (λ c. best-in c l x) (less b y) e
+  best_in_lem b [] x e = inl e
+  best_in_lem none (y ∷ l) x e = ⊎_elim (λ q. inr (inl (cc))) (λ i. inr (inr i)) (best_in_lem (some y) l x e)
+  best_in_lem (some b) (y ∷ l) x e = go (λ c. best_in_lem c l x) (less b y) e
     where
       go : ((c : Option A) → best less c l ≡ some x → (c ≡ some x) ⊎ In x l) → (t : Bool) → best less (elim t [ true ↦ some y | false ↦ some b ]) l ≡ some x → (some b ≡ some x) ⊎ ((x ≡ y) ⊎ In x l)
       go ih true e = ⊎_elim (λ q. inr (inl (cc))) (λ i. inr (inr i)) (ih (some y) e)
       go ih false e = ⊎_elim (λ q. inl q) (λ i. inr (inr i)) (ih (some b) e)
 
-  pub best-some : (b : A) (l : List A) → best less (some b) l ≡ none → ⊥
+  pub best_some : (b : A) (l : List A) → best less (some b) l ≡ none → ⊥
   unfolding best
-  best-some b [] e = let z : ◌≡◌ {A = ℕ} 0 1 = cc in omega arith
-  best-some b (y ∷ l) e = go (λ c. best-some c l) (less b y) e
+  best_some b [] e = let z : ◌≡◌ {A = ℕ} 0 1 = cc in omega arith
+  best_some b (y ∷ l) e = go (λ c. best_some c l) (less b y) e
     where
       go : ((c : A) → best less (some c) l ≡ none → ⊥) → (t : Bool) → best less (elim t [ true ↦ some y | false ↦ some b ]) l ≡ none → ⊥
       go ih true e = ih y e
@@ -134,7 +134,7 @@ module _ {A : Type 0} (less : A → A → Bool) where
   pub best_none : (l : List A) → best less none l ≡ none → (x : A) → In x l → ⊥
   unfolding best
   best_none [] e x i = i
-  best_none (y ∷ l) e x i = best-some y l e
+  best_none (y ∷ l) e x i = best_some y l e
 
 pub In-map : {A B : Type 0} (f : A → B) (l : List A) (x : A) → In x l → In (f x) (map f l)
 In-map f [] x i = absurd i
@@ -170,6 +170,6 @@ keep_append p (x ∷ s) t = go (keep_append p s t) (p x)
     go ih true = ap (λ (l : List _). x ∷ l) ih
     go ih false = ih
 
-pub map-append : {A B : Type 0} (f : A → B) (s t : List A) → map f (s ++ t) ≡ map f s ++ map f t
-map-append f [] t = refl
-map-append f (x ∷ s) t = ap (λ (l : List _). f x ∷ l) (map-append f s t)
+pub map_append : {A B : Type 0} (f : A → B) (s t : List A) → map f (s ++ t) ≡ map f s ++ map f t
+map_append f [] t = refl
+map_append f (x ∷ s) t = ap (λ (l : List _). f x ∷ l) (map_append f s t)

@@ -6,19 +6,19 @@ use mathlib.Core.Bool.{true, false}
 use mathlib.Core.List.{List, [], ◌∷◌, ◌++◌}
 use mathlib.Core.Option.{none}
 use lib.ListN.{drop}
-use Rattle.limits.specs.Limits.{numbers, noSplit}
+use Rattle.limits.specs.Limits.{numbers, no_split}
 use Rattle.rules.specs.Lists.{pick}
-use Rattle.rules.specs.Graph.{Arm, Block, Graph, isEntry}
-use Rattle.rules.specs.Records.{gapZero, block_of, armOf, recordOf, fields, blockBytes, armBytes, recordAt, before, records, leaving, arms_of, listing, blocksOf, graph_of, blocksBytes, leavingBytes, armsBytes, written}
-use Rattle.rules.specs.Refusals.{place_of, entry_of, armCount, last_of, listed, recordChecks, allChecks, tooMany, panicChecks, checks, fine, first, verdict}
-use Rattle.rules.specs.Forward.{goal, movedAll, forward, moves}
-use Rattle.rules.specs.Spread.{coldSet}
+use Rattle.rules.specs.Graph.{Arm, Block, Graph, is_entry}
+use Rattle.rules.specs.Records.{gap_zero, block_of, arm_of, record_of, fields, block_bytes, arm_bytes, record_at, before, records, leaving, arms_of, listing, blocks_of, graph_of, blocks_bytes, leaving_bytes, arms_bytes, written}
+use Rattle.rules.specs.Refusals.{place_of, entry_of, arm_count, last_of, listed, record_checks, all_checks, too_many, panic_checks, checks, fine, first, verdict}
+use Rattle.rules.specs.Forward.{goal, moved_all, forward, moves}
+use Rattle.rules.specs.Spread.{cold_set}
 use Rattle.rules.specs.Weights.{share, largest}
-use Rattle.rules.specs.Traces.{roundOne, floorOf, traces}
+use Rattle.rules.specs.Traces.{round_one, floor_of, traces}
 use Rattle.rules.specs.Exits.{Place, bridges}
 use Rattle.rules.specs.Heads.{heads}
-use Rattle.rules.specs.Laid.{layout, splitOf, laidBytes}
-use Rattle.rules.specs.Outcome.{refusal, refused, laid, layout_of, layoutBlocks}
+use Rattle.rules.specs.Laid.{layout, split_of, laid_bytes}
+use Rattle.rules.specs.Outcome.{refusal, refused, laid, layout_of, layout_blocks}
 use Rattle.rules.specs.Listing.{blocklist}
 
 abbrev arm : ℕ → ℕ → Arm
@@ -57,21 +57,21 @@ abbrev facing : Graph
 facing = block 0 1 1 5 (arm 1 5 ∷ []) ∷ block 1 0 0 5 (arm 2 5 ∷ []) ∷ block 2 0 0 5 (arm 1 5 ∷ []) ∷ []
 
 -- block 2 is "entered from a cold block and itself"
-abbrev selfFed : Graph
-selfFed =
+abbrev self_fed : Graph
+self_fed =
     block 0 1 2 5 (arm 1 5 ∷ arm 3 5 ∷ []) ∷ block 1 2 1 5 (arm 2 5 ∷ []) ∷ block 2 0 2 5 (arm 2 5 ∷ arm 3 3 ∷ []) ∷ block 3 0 1 3 [] ∷ []
 
 -- "warm entry branching to two cold blocks"
-abbrev coldArms : Graph
-coldArms = block 0 1 2 5 (arm 1 5 ∷ arm 2 5 ∷ []) ∷ block 1 2 1 5 [] ∷ block 2 2 1 5 [] ∷ []
+abbrev cold_arms : Graph
+cold_arms = block 0 1 2 5 (arm 1 5 ∷ arm 2 5 ∷ []) ∷ block 1 2 1 5 [] ∷ block 2 2 1 5 [] ∷ []
 
 -- "both arms to the next block"
-abbrev bothNext : Graph
-bothNext = block 0 1 2 5 (arm 1 5 ∷ arm 1 5 ∷ []) ∷ block 1 0 1 5 [] ∷ []
+abbrev both_next : Graph
+both_next = block 0 1 2 5 (arm 1 5 ∷ arm 1 5 ∷ []) ∷ block 1 0 1 5 [] ∷ []
 
 -- a block with this end whose first arm goes to the next block and whose second does not
-abbrev firstNext : ℕ → Graph
-firstNext end = block 0 1 end 5 (arm 1 5 ∷ arm 2 5 ∷ []) ∷ block 1 0 1 5 [] ∷ block 2 0 1 5 [] ∷ []
+abbrev first_next : ℕ → Graph
+first_next end = block 0 1 end 5 (arm 1 5 ∷ arm 2 5 ∷ []) ∷ block 1 0 1 5 [] ∷ block 2 0 1 5 [] ∷ []
 
 -- what a reader sees of laid blocks: number and exit
 unfoldable pub seen : List Place → List (ℕ × ℕ)
@@ -84,26 +84,26 @@ unfolding written
 input = written (example 90000)
 
 pub record Points : Type 0 where
-  pub p1-no-turn : traces (example 80000) ≡ (0 ∷ 1 ∷ 2 ∷ []) ∷ (3 ∷ []) ∷ []
-  pub p1-turn : traces (example 80001) ≡ (0 ∷ 2 ∷ 1 ∷ []) ∷ (3 ∷ []) ∷ []
+  pub p1_no_turn : traces (example 80000) ≡ (0 ∷ 1 ∷ 2 ∷ []) ∷ (3 ∷ []) ∷ []
+  pub p1_turn : traces (example 80001) ≡ (0 ∷ 2 ∷ 1 ∷ []) ∷ (3 ∷ []) ∷ []
   pub p2 : share 3999 9998 ∷ share 4 10 ∷ share 5 0 ∷ [] ≡ 3999 ∷ 4000 ∷ 0 ∷ []
-  pub p3 : floorOf (alone 3) roundOne.often ∷ floorOf (alone largest) roundOne.often ∷ [] ≡ 1 ∷ 9223372036854775807 ∷ []
-  pub p4-head : heads (behind 99) ≡ 1 ∷ []
-  pub p4-not : heads (behind 199) ≡ []
-  pub p5-move : moves passed ≡ 1
-  pub p5-cleared : forward passed ≡ block 0 1 1 5 (arm 2 5 ∷ []) ∷ block 1 4 0 0 [] ∷ block 2 0 1 5 [] ∷ []
-  pub p6 : movedAll doubled ≡ doubled
-  pub p6-none : moves doubled ≡ 0
+  pub p3 : floor_of (alone 3) round_one.often ∷ floor_of (alone largest) round_one.often ∷ [] ≡ 1 ∷ 9223372036854775807 ∷ []
+  pub p4_head : heads (behind 99) ≡ 1 ∷ []
+  pub p4_not : heads (behind 199) ≡ []
+  pub p5_move : moves passed ≡ 1
+  pub p5_cleared : forward passed ≡ block 0 1 1 5 (arm 2 5 ∷ []) ∷ block 1 4 0 0 [] ∷ block 2 0 1 5 [] ∷ []
+  pub p6 : moved_all doubled ≡ doubled
+  pub p6_none : moves doubled ≡ 0
   pub p7 : goal facing 1 ≡ none
-  pub p8 : coldSet selfFed ≡ 1 ∷ []
-  pub p9-bridge : seen (layout true true coldArms) ≡ (0, 2) ∷ (numbers, 1) ∷ (1, 0) ∷ (2, 0) ∷ []
-  pub p9-split : splitOf true true coldArms ≡ 2
-  pub p9-answer : (n : ℕ) → laid true true coldArms (layout true true coldArms) n
+  pub p8 : cold_set self_fed ≡ 1 ∷ []
+  pub p9_bridge : seen (layout true true cold_arms) ≡ (0, 2) ∷ (numbers, 1) ∷ (1, 0) ∷ (2, 0) ∷ []
+  pub p9_split : split_of true true cold_arms ≡ 2
+  pub p9_answer : (n : ℕ) → laid true true cold_arms (layout true true cold_arms) n
       ≡ record { refusal = 0; place = 0; needed = 0; written = n; blocks = 3; bridges = 1; moved = 0; split = 2 }
-  pub p10 : seen (layout true true bothNext) ≡ (0, 2) ∷ (1, 0) ∷ []
+  pub p10 : seen (layout true true both_next) ≡ (0, 2) ∷ (1, 0) ∷ []
   -- "Its exit byte is 2 when kept or bridged, 3 when exchanged; ends 5 and 6 with two or more arms have exit 0."
-  pub exchanged : seen (layout false false (firstNext 2)) ≡ (0, 3) ∷ (1, 0) ∷ (2, 0) ∷ []
-  pub already-written : seen (layout false false (firstNext 6)) ≡ (0, 0) ∷ (numbers, 1) ∷ (1, 0) ∷ (2, 0) ∷ []
+  pub exchanged : seen (layout false false (first_next 2)) ≡ (0, 3) ∷ (1, 0) ∷ (2, 0) ∷ []
+  pub already_written : seen (layout false false (first_next 6)) ≡ (0, 0) ∷ (numbers, 1) ∷ (1, 0) ∷ (2, 0) ∷ []
   -- "0 B 0 10000 W - - 1", "1 B 2 90000 W H L 0", "2 B 1 100000 W - L 2", "3 B 3 10000 W - - 0", "split none"
   pub printed : blocklist input
       ≡ 48 ∷ 32 ∷ 66 ∷ 32 ∷ 48 ∷ 32 ∷ 49 ∷ 48 ∷ 48 ∷ 48 ∷ 48 ∷ 32 ∷ 87 ∷ 32 ∷ 45 ∷ 32 ∷ 45 ∷ 32 ∷ 49 ∷ 10
@@ -112,35 +112,35 @@ pub record Points : Type 0 where
       ∷ 51 ∷ 32 ∷ 66 ∷ 32 ∷ 51 ∷ 32 ∷ 49 ∷ 48 ∷ 48 ∷ 48 ∷ 48 ∷ 32 ∷ 87 ∷ 32 ∷ 45 ∷ 32 ∷ 45 ∷ 32 ∷ 48 ∷ 10
       ∷ 115 ∷ 112 ∷ 108 ∷ 105 ∷ 116 ∷ 32 ∷ 110 ∷ 111 ∷ 110 ∷ 101 ∷ 10 ∷ []
   -- and what the call answers of its 128 bytes, with room to spare and a byte short
-  pub answered : (layoutBlocks true true input (input ++ (7 ∷ 7 ∷ []))).answer
-      ≡ record { refusal = 0; place = 0; needed = 0; written = 128; blocks = 4; bridges = 0; moved = 0; split = noSplit }
-  pub short : (layoutBlocks true true input (drop 1 input)).answer
+  pub answered : (layout_blocks true true input (input ++ (7 ∷ 7 ∷ []))).answer
+      ≡ record { refusal = 0; place = 0; needed = 0; written = 128; blocks = 4; bridges = 0; moved = 0; split = no_split }
+  pub short : (layout_blocks true true input (drop 1 input)).answer
       ≡ record { refusal = 10; place = 0; needed = 128; written = 0; blocks = 0; bridges = 0; moved = 0; split = 0 }
 
 pub points : Points
-unfolding pick traces share floorOf heads moves forward movedAll goal coldSet layout seen splitOf blocklist input laidBytes refusal refused laid layout_of layoutBlocks bridges
-    gapZero block_of armOf recordOf fields blockBytes armBytes recordAt before records leaving arms_of listing blocksOf graph_of blocksBytes leavingBytes armsBytes written
-    place_of entry_of armCount last_of listed recordChecks allChecks tooMany panicChecks checks fine first verdict isEntry
+unfolding pick traces share floor_of heads moves forward moved_all goal cold_set layout seen split_of blocklist input laid_bytes refusal refused laid layout_of layout_blocks bridges
+    gap_zero block_of arm_of record_of fields block_bytes arm_bytes record_at before records leaving arms_of listing blocks_of graph_of blocks_bytes leaving_bytes arms_bytes written
+    place_of entry_of arm_count last_of listed record_checks all_checks too_many panic_checks checks fine first verdict is_entry
 points =
     record {
-      p1-no-turn = refl;
-      p1-turn = refl;
+      p1_no_turn = refl;
+      p1_turn = refl;
       p2 = refl;
       p3 = refl;
-      p4-head = refl;
-      p4-not = refl;
-      p5-move = refl;
-      p5-cleared = refl;
+      p4_head = refl;
+      p4_not = refl;
+      p5_move = refl;
+      p5_cleared = refl;
       p6 = refl;
-      p6-none = refl;
+      p6_none = refl;
       p7 = refl;
       p8 = refl;
-      p9-bridge = refl;
-      p9-split = refl;
-      p9-answer = λ n. refl;
+      p9_bridge = refl;
+      p9_split = refl;
+      p9_answer = λ n. refl;
       p10 = refl;
       exchanged = refl;
-      already-written = refl;
+      already_written = refl;
       printed = refl;
       answered = refl;
       short = refl;

@@ -1,4 +1,4 @@
--- THEOREM exit-last: where a part of a trace turns, the chosen exit's block comes last, and what was after it first. Assumes nothing.
+-- THEOREM exit_last: where a part of a trace turns, the chosen exit's block comes last, and what was after it first. Assumes nothing.
 use Prim.Native.Nat.{ℕ, zero, suc, ◌+◌, ◌≤◌, ◌<◌}
 use native.Mathlib.Omega.{arith}
 use mathlib.Core.Path.{◌≡◌, refl, ap, ◌∙◌}
@@ -10,30 +10,30 @@ use lib.Dec.{leb}
 use lib.ListN.{length, get_or, take, drop, length-take}
 use Rattle.rules.specs.Lists.{keep, best, last_or, mem}
 use Rattle.rules.specs.Graph.{Arm, Graph, block_at}
-use Rattle.rules.specs.Rotate.{WayOut, worse, waysOut, turned}
-use Rattle.rules.proofs.Membership.{In, best-in, map-In, append-In}
+use Rattle.rules.specs.Rotate.{WayOut, worse, ways_out, turned}
+use Rattle.rules.proofs.Membership.{In, best_in_lem, map-In, append-In}
 
-last-append : (d : ℕ) (xs ys : List ℕ) → 0 < length ys → last_or d (xs ++ ys) ≡ last_or d ys
+last_append : (d : ℕ) (xs ys : List ℕ) → 0 < length ys → last_or d (xs ++ ys) ≡ last_or d ys
 unfolding last_or
-last-append d [] ys h = refl
-last-append d (x ∷ []) [] h = absurd (omega (arith, h))
-last-append d (x ∷ []) (y ∷ ys) h = refl
-last-append d (x ∷ z ∷ xs) ys h = last-append d (z ∷ xs) ys h
+last_append d [] ys h = refl
+last_append d (x ∷ []) [] h = absurd (omega (arith, h))
+last_append d (x ∷ []) (y ∷ ys) h = refl
+last_append d (x ∷ z ∷ xs) ys h = last_append d (z ∷ xs) ys h
 
-last-take : (d : ℕ) (l : List ℕ) (k : ℕ) → k < length l → last_or d (take (suc k) l) ≡ get_or l k d
+last_take : (d : ℕ) (l : List ℕ) (k : ℕ) → k < length l → last_or d (take (suc k) l) ≡ get_or l k d
 unfolding last_or
-last-take d [] k h = absurd (omega arith)
-last-take d (x ∷ l) zero h = refl
-last-take d (x ∷ []) (suc k) h = absurd (omega arith)
-last-take d (x ∷ y ∷ l) (suc k) h = last-take d (y ∷ l) k (omega arith)
+last_take d [] k h = absurd (omega arith)
+last_take d (x ∷ l) zero h = refl
+last_take d (x ∷ []) (suc k) h = absurd (omega arith)
+last_take d (x ∷ y ∷ l) (suc k) h = last_take d (y ∷ l) k (omega arith)
 
 -- a way out is from a block of the part
-way-index : (g : Graph) (preferred : ℕ → Bool) (part : List ℕ) (i : ℕ) (l : List ℕ) (w : WayOut) → In w (waysOut g preferred part i l) → (i ≤ w.index) × (w.index < i + length l)
-unfolding waysOut
-way-index g preferred part i [] w j = absurd j
-way-index g preferred part i (n ∷ l) w j =
-    ⊎_elim (λ k. here (leb (length (block_at g n).arms) 2) k) (λ k. let r = way-index g preferred part (i + 1) l w k in (omega (arith, r.0), omega (arith, r.1)))
-    (append-In w (cond (leb (length (block_at g n).arms) 2) ways []) (waysOut g preferred part (i + 1) l) j)
+way_index : (g : Graph) (preferred : ℕ → Bool) (part : List ℕ) (i : ℕ) (l : List ℕ) (w : WayOut) → In w (ways_out g preferred part i l) → (i ≤ w.index) × (w.index < i + length l)
+unfolding ways_out
+way_index g preferred part i [] w j = absurd j
+way_index g preferred part i (n ∷ l) w j =
+    ⊎_elim (λ k. here (leb (length (block_at g n).arms) 2) k) (λ k. let r = way_index g preferred part (i + 1) l w k in (omega (arith, r.0), omega (arith, r.1)))
+    (append-In w (cond (leb (length (block_at g n).arms) 2) ways []) (ways_out g preferred part (i + 1) l) j)
   where
     out : Arm → WayOut
     out a = record { preferred = cond (preferred a.to) 1 0; weight = a.weight; index = i }
@@ -52,20 +52,20 @@ way-index g preferred part i (n ∷ l) w j =
         (omega (arith, e), omega (arith, e))
 
 module _ (g : Graph) (preferred : ℕ → Bool) (part : List ℕ) where
-  pub exit-last : (w : WayOut) → best worse none (waysOut g preferred part 0 part) ≡ some w → (d : ℕ) → last_or d (turned g preferred part) ≡ get_or part w.index d
+  pub exit_last : (w : WayOut) → best worse none (ways_out g preferred part 0 part) ≡ some w → (d : ℕ) → last_or d (turned g preferred part) ≡ get_or part w.index d
   unfolding turned
-  exit-last w e d =
-      let i = ⊎_elim (λ q. absurd (let z : ◌≡◌ {A = ℕ} 0 1 = cc in omega arith)) (λ j. way-index g preferred part 0 part w j) (best-in worse none (waysOut g preferred part 0 part) w e) in
+  exit_last w e d =
+      let i = ⊎_elim (λ q. absurd (let z : ◌≡◌ {A = ℕ} 0 1 = cc in omega arith)) (λ j. way_index g preferred part 0 part w j) (best_in_lem worse none (ways_out g preferred part 0 part) w e) in
       let k : w.index + 1 ≡ suc w.index = omega arith in
       ap (λ (o : Option WayOut). last_or d (turn o)) e
-      ∙ last-append d (drop (w.index + 1) part) (take (w.index + 1) part) (omega (arith, length-take (w.index + 1) part, i.1))
+      ∙ last_append d (drop (w.index + 1) part) (take (w.index + 1) part) (omega (arith, length-take (w.index + 1) part, i.1))
       ∙ ap (λ (n : ℕ). last_or d (take n part)) k
-      ∙ last-take d part w.index (omega (arith, i.1))
+      ∙ last_take d part w.index (omega (arith, i.1))
     where
       turn : Option WayOut → List ℕ
       turn o = elim o as (λ (x : Option WayOut). List ℕ) [ none ↦ part | some w ↦ drop (w.index + 1) part ++ take (w.index + 1) part ]
 
   -- "with no exit nothing turns"
-  pub no-exit : best worse none (waysOut g preferred part 0 part) ≡ none → turned g preferred part ≡ part
+  pub no_exit : best worse none (ways_out g preferred part 0 part) ≡ none → turned g preferred part ≡ part
   unfolding turned
-  no-exit e = rw (e, turned) refl
+  no_exit e = rw (e, turned) refl

@@ -1,12 +1,12 @@
 -- Document 01, "Exits": how each block of an order is left, and the bridges this takes.
 use Rattle.std.specs.Prelude.{ℕ, zero, suc, ◌+◌, Bool, true, false, cond, ◌&&◌, ◌||◌, List, [], ◌∷◌, ◌++◌, map, eqb, leb, length, get_or}
 use Rattle.std.proofs.Math.Option.{Option, none, some}
-use Rattle.limits.specs.Limits.{numbers, blocks, noSplit}
+use Rattle.limits.specs.Limits.{numbers, blocks, no_split}
 use Rattle.rules.specs.declared.Leaving.{Leaving}
 use Rattle.rules.specs.declared.Leaving.TheVariants.{Nothing, Jump, Branch, Exchanged, Bridge}
 use Rattle.rules.specs.Lists.{pick}
-use Rattle.rules.specs.Graph.{Arm, Block, Graph, block_at, names, withArms}
-use Rattle.rules.specs.Split.{splits, warmPart, coldPart}
+use Rattle.rules.specs.Graph.{Arm, Block, Graph, block_at, names, with_arms}
+use Rattle.rules.specs.Split.{splits, warm_part, cold_part}
 
 -- ---- the decision
 
@@ -44,7 +44,7 @@ exit_of end (Bridge i) = cond (eqb end 2) 2 0
 -- a place of the listing: a block or a bridge, with its exit byte
 pub record Place : Type 0 where
   pub block : Block
-  pub isBridge : Bool
+  pub is_bridge : Bool
   pub exit : ℕ
 
 -- what is found past the last arm
@@ -52,10 +52,10 @@ unfoldable pub no_arm : Arm
 no_arm = record { to = blocks; args = 0; weight = 0 }
 
 -- arm i replaced
-unfoldable pub setArm : ℕ → Arm → List Arm → List Arm
-setArm i a [] = []
-setArm zero a (x ∷ l) = a ∷ l
-setArm (suc i) a (x ∷ l) = x ∷ setArm i a l
+unfoldable pub set_arm : ℕ → Arm → List Arm → List Arm
+set_arm i a [] = []
+set_arm zero a (x ∷ l) = a ∷ l
+set_arm (suc i) a (x ∷ l) = x ∷ set_arm i a l
 
 -- "exchange": the first two arms change places
 unfoldable pub swapped : List Arm → List Arm
@@ -64,83 +64,83 @@ swapped (x ∷ []) = x ∷ []
 swapped (x ∷ y ∷ l) = y ∷ x ∷ l
 
 -- "the block's arm becomes a plain one to it of the same weight": the arms, where a bridge would be numbered `new`
-unfoldable pub armsLeft : ℕ → List Arm → Leaving → List Arm
-unfolding setArm swapped no_arm
-armsLeft new arms Nothing = arms
-armsLeft new arms Jump = arms
-armsLeft new arms Branch = arms
-armsLeft new arms Exchanged = swapped arms
-armsLeft new arms (Bridge i) = setArm i (record { to = new; args = 0; weight = (get_or arms i no_arm).weight }) arms
+unfoldable pub arms_left : ℕ → List Arm → Leaving → List Arm
+unfolding set_arm swapped no_arm
+arms_left new arms Nothing = arms
+arms_left new arms Jump = arms
+arms_left new arms Branch = arms
+arms_left new arms Exchanged = swapped arms
+arms_left new arms (Bridge i) = set_arm i (record { to = new; args = 0; weight = (get_or arms i no_arm).weight }) arms
 
 -- a block as it is laid, left in this way
-unfoldable pub laidBlock : ℕ → Block → Leaving → Place
-unfolding armsLeft withArms exit_of
-laidBlock new b v = record { block = withArms b (armsLeft new b.arms v); isBridge = false; exit = exit_of b.end v }
+unfoldable pub laid_block : ℕ → Block → Leaving → Place
+unfolding arms_left with_arms exit_of
+laid_block new b v = record { block = with_arms b (arms_left new b.arms v); is_bridge = false; exit = exit_of b.end v }
 
 -- "A bridge takes the arm with its arguments and weight, and weighs as much itself"; "A bridge's own exit is always 1."; bridges "are
 -- cold only in the cold part"
-unfoldable pub bridgeFor : ℕ → Bool → Arm → Place
-bridgeFor new cold a =
-    record { block = record { number = new; marks = cond cold 2 0; end = 0; weight = a.weight; arms = a ∷ [] }; isBridge = true; exit = 1 }
+unfoldable pub bridge_for : ℕ → Bool → Arm → Place
+bridge_for new cold a =
+    record { block = record { number = new; marks = cond cold 2 0; end = 0; weight = a.weight; arms = a ∷ [] }; is_bridge = true; exit = 1 }
 
 -- the bridge that this way of leaving makes, if any
-unfoldable pub bridgeOf : ℕ → Bool → Block → Leaving → List Place
-unfolding bridgeFor no_arm
-bridgeOf new cold b Nothing = []
-bridgeOf new cold b Jump = []
-bridgeOf new cold b Branch = []
-bridgeOf new cold b Exchanged = []
-bridgeOf new cold b (Bridge i) = bridgeFor new cold (get_or b.arms i no_arm) ∷ []
+unfoldable pub bridge_of : ℕ → Bool → Block → Leaving → List Place
+unfolding bridge_for no_arm
+bridge_of new cold b Nothing = []
+bridge_of new cold b Jump = []
+bridge_of new cold b Branch = []
+bridge_of new cold b Exchanged = []
+bridge_of new cold b (Bridge i) = bridge_for new cold (get_or b.arms i no_arm) ∷ []
 
 -- "Bridges are numbered 128 up as made"
-unfoldable pub newAfter : ℕ → Leaving → ℕ
-newAfter new Nothing = new
-newAfter new Jump = new
-newAfter new Branch = new
-newAfter new Exchanged = new
-newAfter new (Bridge i) = suc new
+unfoldable pub new_after : ℕ → Leaving → ℕ
+new_after new Nothing = new
+new_after new Jump = new
+new_after new Branch = new
+new_after new Exchanged = new
+new_after new (Bridge i) = suc new
 
 -- ---- an order as it is laid
 
 -- "A warm part's last block has no next."
-unfoldable pub nextIn : List ℕ → Option ℕ
-nextIn [] = none
-nextIn (n ∷ l) = some n
+unfoldable pub next_in : List ℕ → Option ℕ
+next_in [] = none
+next_in (n ∷ l) = some n
 
 -- one part of the order, its bridges numbered from `new` up
-unfoldable pub layPart : Graph → Bool → ℕ → List ℕ → List Place
-unfolding edges block_at nextIn laidBlock bridgeOf newAfter
-layPart g cold new [] = []
-layPart g cold new (n ∷ l) =
+unfoldable pub lay_part : Graph → Bool → ℕ → List ℕ → List Place
+unfolding edges block_at next_in laid_block bridge_of new_after
+lay_part g cold new [] = []
+lay_part g cold new (n ∷ l) =
     let b = block_at g n in
-    let v = edges (nextIn l) b.end b.arms in
-    laidBlock new b v ∷ (bridgeOf new cold b v ++ layPart g cold (newAfter new v) l)
+    let v = edges (next_in l) b.end b.arms in
+    laid_block new b v ∷ (bridge_of new cold b v ++ lay_part g cold (new_after new v) l)
 
 -- how many bridges stand in the places
 unfoldable pub bridges : List Place → ℕ
 bridges [] = 0
-bridges (p ∷ l) = let r = bridges l in cond p.isBridge (suc r) r
+bridges (p ∷ l) = let r = bridges l in cond p.is_bridge (suc r) r
 
 -- the places of the warm part, which come first where there is a split
-unfoldable pub warmPlaces : Graph → List ℕ → List Place
-unfolding layPart warmPart
-warmPlaces g o = layPart g false numbers (warmPart g o)
+unfoldable pub warm_places : Graph → List ℕ → List Place
+unfolding lay_part warm_part
+warm_places g o = lay_part g false numbers (warm_part g o)
 
 -- "warm, then cold, each in order"; without a split one part that is not cold
 unfoldable pub lay : Graph → List ℕ → List Place
-unfolding splits warmPlaces layPart coldPart bridges
+unfolding splits warm_places lay_part cold_part bridges
 lay g o = elim (splits g) [
-  | false ↦ layPart g false numbers o
+  | false ↦ lay_part g false numbers o
   | true ↦
-      let w = warmPlaces g o in
-      w ++ layPart g true (numbers + bridges w) (coldPart g o)
+      let w = warm_places g o in
+      w ++ lay_part g true (numbers + bridges w) (cold_part g o)
 ]
 
 -- "split place (256 for none)": the place of the cold part's first block
-unfoldable pub splitPlace : Graph → List ℕ → ℕ
-unfolding splits warmPlaces
-splitPlace g o = cond (splits g) (length (warmPlaces g o)) noSplit
+unfoldable pub split_place : Graph → List ℕ → ℕ
+unfolding splits warm_places
+split_place g o = cond (splits g) (length (warm_places g o)) no_split
 
 -- the laid graph: "with bridges"
-unfoldable pub laidGraph : List Place → Graph
-laidGraph l = map (λ (p : Place). p.block) l
+unfoldable pub laid_graph : List Place → Graph
+laid_graph l = map (λ (p : Place). p.block) l

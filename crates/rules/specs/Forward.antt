@@ -2,55 +2,55 @@
 use Rattle.std.specs.Prelude.{ℕ, zero, suc, ◌+◌, Bool, true, false, not, cond, ◌&&◌, ◌||◌, List, [], ◌∷◌, ◌++◌, map, eqb, length}
 use Rattle.std.proofs.Math.Option.{Option, none, some}
 use Rattle.rules.specs.Lists.{any}
-use Rattle.rules.specs.Graph.{Arm, Block, Graph, isEntry, isDead, hasParameters, isNamed, isAddressed, block_at, withArms}
+use Rattle.rules.specs.Graph.{Arm, Block, Graph, is_entry, is_dead, has_parameters, is_named, is_addressed, block_at, with_arms}
 use Rattle.rules.specs.Ours.{ours}
 
 -- "one arm without arguments": where it goes
-unfoldable pub onlyTarget : List Arm → Option ℕ
-onlyTarget [] = none
-onlyTarget (a ∷ []) = elim (eqb a.args 0) [ true ↦ some a.to | false ↦ none ]
-onlyTarget (a ∷ b ∷ l) = none
+unfoldable pub only_target : List Arm → Option ℕ
+only_target [] = none
+only_target (a ∷ []) = elim (eqb a.args 0) [ true ↦ some a.to | false ↦ none ]
+only_target (a ∷ b ∷ l) = none
 
 -- "A way through has end 0, one arm without arguments, marks 2, 3, 4 clear, and is not the entry": where it leads
 unfoldable pub through : Block → Option ℕ
-unfolding onlyTarget isEntry isDead hasParameters isNamed
+unfolding only_target is_entry is_dead has_parameters is_named
 through b =
-    elim (eqb b.end 0 && not (isEntry b.marks) && not (isDead b.marks) && not (hasParameters b.marks) && not (isNamed b.marks))
-    [ true ↦ onlyTarget b.arms | false ↦ none ]
+    elim (eqb b.end 0 && not (is_entry b.marks) && not (is_dead b.marks) && not (has_parameters b.marks) && not (is_named b.marks))
+    [ true ↦ only_target b.arms | false ↦ none ]
 
 -- the first block that is no way through, from block n on along at most k arms
-unfoldable pub leavesAt : Graph → ℕ → ℕ → Option ℕ
+unfoldable pub leaves_at : Graph → ℕ → ℕ → Option ℕ
 unfolding through block_at
-leavesAt g zero n = none
-leavesAt g (suc k) n = elim (through (block_at g n)) [ none ↦ some n | some m ↦ leavesAt g k m ]
+leaves_at g zero n = none
+leaves_at g (suc k) n = elim (through (block_at g n)) [ none ↦ some n | some m ↦ leaves_at g k m ]
 
 -- "Its goal is the first block on its chain that is no way through; none if the chain never leaves."
 -- A chain that leaves does so after fewer arms than there are blocks.
 unfoldable pub goal : Graph → ℕ → Option ℕ
-unfolding through block_at leavesAt
-goal g n = elim (through (block_at g n)) [ none ↦ none | some m ↦ leavesAt g (length g) m ]
+unfolding through block_at leaves_at
+goal g n = elim (through (block_at g n)) [ none ↦ none | some m ↦ leaves_at g (length g) m ]
 
 -- "each arm in turn whose target has a goal moves there, unless an arm of that block already goes to it": `done` are those passed
-unfoldable pub movedArms : (ℕ → Option ℕ) → List Arm → List Arm → List Arm
+unfoldable pub moved_arms : (ℕ → Option ℕ) → List Arm → List Arm → List Arm
 unfolding any
-movedArms goals done [] = []
-movedArms goals done (a ∷ l) =
+moved_arms goals done [] = []
+moved_arms goals done (a ∷ l) =
     let b : Arm = elim (goals a.to) [
       | none ↦ a
       | some m ↦
           elim (any (λ (x : Arm). eqb x.to m) (done ++ (a ∷ l))) [ true ↦ a | false ↦ record { to = m; args = a.args; weight = a.weight } ]
     ] in
-    b ∷ movedArms goals (done ++ (b ∷ [])) l
+    b ∷ moved_arms goals (done ++ (b ∷ [])) l
 
 -- "over listed blocks that are ours"
-unfoldable pub movedBlock : (ℕ → Option ℕ) → Block → Block
-unfolding movedArms ours withArms
-movedBlock goals b = elim (ours b) [ false ↦ b | true ↦ withArms b (movedArms goals [] b.arms) ]
+unfoldable pub moved_block : (ℕ → Option ℕ) → Block → Block
+unfolding moved_arms ours with_arms
+moved_block goals b = elim (ours b) [ false ↦ b | true ↦ with_arms b (moved_arms goals [] b.arms) ]
 
 -- "Goals are fixed first. Then, over listed blocks that are ours [..]"
-unfoldable pub movedAll : Graph → Graph
-unfolding movedBlock goal
-movedAll g = map (movedBlock (goal g)) g
+unfoldable pub moved_all : Graph → Graph
+unfolding moved_block goal
+moved_all g = map (moved_block (goal g)) g
 
 -- a block has an arm in
 unfoldable pub entered : Graph → ℕ → Bool
@@ -59,22 +59,22 @@ entered g n = any (λ (b : Block). any (λ (a : Arm). eqb a.to n) b.arms) g
 
 -- "each block with a goal, no arm in (all counted before the first is cleared) and mark 5 clear loses its arms, becomes a dead
 -- end and weighs 0"
-unfoldable pub clearedBlock : (ℕ → Option ℕ) → Graph → Block → Block
-unfolding entered isAddressed isDead
-clearedBlock goals g b = elim (goals b.number) [
+unfoldable pub cleared_block : (ℕ → Option ℕ) → Graph → Block → Block
+unfolding entered is_addressed is_dead
+cleared_block goals g b = elim (goals b.number) [
   | none ↦ b
   | some m ↦
-      elim (entered g b.number || isAddressed b.marks) [
+      elim (entered g b.number || is_addressed b.marks) [
         | true ↦ b
         | false ↦
-            record { number = b.number; marks = cond (isDead b.marks) b.marks (b.marks + 4); end = b.end; weight = 0; arms = [] }
+            record { number = b.number; marks = cond (is_dead b.marks) b.marks (b.marks + 4); end = b.end; weight = 0; arms = [] }
       ]
 ]
 
 -- the moves, then "Last," the clearing
 unfoldable pub forward : Graph → Graph
-unfolding clearedBlock goal movedAll
-forward g = let m = movedAll g in map (clearedBlock (goal g) m) m
+unfolding cleared_block goal moved_all
+forward g = let m = moved_all g in map (cleared_block (goal g) m) m
 
 -- how many of these arms go elsewhere than those
 unfoldable pub elsewhere : List Arm → List Arm → ℕ
@@ -83,13 +83,13 @@ elsewhere (a ∷ k) [] = 0
 elsewhere (a ∷ k) (b ∷ l) = cond (eqb a.to b.to) 0 1 + elsewhere k l
 
 -- the arms that go elsewhere, over all blocks
-unfoldable pub movesBetween : Graph → Graph → ℕ
+unfoldable pub moves_between : Graph → Graph → ℕ
 unfolding elsewhere
-movesBetween [] h = 0
-movesBetween (b ∷ g) [] = 0
-movesBetween (b ∷ g) (c ∷ h) = elsewhere b.arms c.arms + movesBetween g h
+moves_between [] h = 0
+moves_between (b ∷ g) [] = 0
+moves_between (b ∷ g) (c ∷ h) = elsewhere b.arms c.arms + moves_between g h
 
 -- "Moves are counted before that."
 unfoldable pub moves : Graph → ℕ
-unfolding movesBetween movedAll
-moves g = movesBetween g (movedAll g)
+unfolding moves_between moved_all
+moves g = moves_between g (moved_all g)

@@ -27,39 +27,39 @@ unfoldable pub bit : ℕ → ℕ → Bool
 bit k marks = eqb (marks / 2 ^ k % 2) 1
 
 -- "0 entry"
-unfoldable pub isEntry : ℕ → Bool
+unfoldable pub is_entry : ℕ → Bool
 unfolding bit
-isEntry marks = bit 0 marks
+is_entry marks = bit 0 marks
 
 -- "1 cold"
-unfoldable pub isCold : ℕ → Bool
+unfoldable pub is_cold : ℕ → Bool
 unfolding bit
-isCold marks = bit 1 marks
+is_cold marks = bit 1 marks
 
 -- "2 dead end"
-unfoldable pub isDead : ℕ → Bool
+unfoldable pub is_dead : ℕ → Bool
 unfolding bit
-isDead marks = bit 2 marks
+is_dead marks = bit 2 marks
 
 -- "3 parameters"
-unfoldable pub hasParameters : ℕ → Bool
+unfoldable pub has_parameters : ℕ → Bool
 unfolding bit
-hasParameters marks = bit 3 marks
+has_parameters marks = bit 3 marks
 
 -- "4 named or landing pad"
-unfoldable pub isNamed : ℕ → Bool
+unfoldable pub is_named : ℕ → Bool
 unfolding bit
-isNamed marks = bit 4 marks
+is_named marks = bit 4 marks
 
 -- "5 named by an instruction's address"
-unfoldable pub isAddressed : ℕ → Bool
+unfoldable pub is_addressed : ℕ → Bool
 unfolding bit
-isAddressed marks = bit 5 marks
+is_addressed marks = bit 5 marks
 
 -- "6 walking"
-unfoldable pub isWalking : ℕ → Bool
+unfoldable pub is_walking : ℕ → Bool
 unfolding bit
-isWalking marks = bit 6 marks
+is_walking marks = bit 6 marks
 
 -- ---- a graph by its numbers
 
@@ -73,13 +73,13 @@ unfolding no_block find
 block_at g n = find (λ (b : Block). eqb b.number n) no_block g
 
 -- block n is cold
-unfoldable pub coldAt : Graph → ℕ → Bool
-unfolding block_at isCold
-coldAt g n = isCold (block_at g n).marks
+unfoldable pub cold_at : Graph → ℕ → Bool
+unfolding block_at is_cold
+cold_at g n = is_cold (block_at g n).marks
 
 -- the numbers of the blocks, as listed
-unfoldable pub numbersOf : Graph → List ℕ
-numbersOf g = map (λ (b : Block). b.number) g
+unfoldable pub numbers_of : Graph → List ℕ
+numbers_of g = map (λ (b : Block). b.number) g
 
 -- where the arms of a block go
 unfoldable pub targets : Block → List ℕ
@@ -87,9 +87,9 @@ targets b = map (λ (a : Arm). a.to) b.arms
 
 -- "There may be no entry."
 unfoldable pub entry : Graph → Option ℕ
-unfolding isEntry
+unfolding is_entry
 entry [] = none
-entry (b ∷ g) = elim (isEntry b.marks) [ true ↦ some b.number | false ↦ entry g ]
+entry (b ∷ g) = elim (is_entry b.marks) [ true ↦ some b.number | false ↦ entry g ]
 
 -- the block that this may be is block n
 unfoldable pub names : Option ℕ → ℕ → Bool
@@ -97,5 +97,5 @@ names none n = false
 names (some m) n = eqb m n
 
 -- the block with these arms in place of its own
-unfoldable pub withArms : Block → List Arm → Block
-withArms b arms = record { number = b.number; marks = b.marks; end = b.end; weight = b.weight; arms = arms }
+unfoldable pub with_arms : Block → List Arm → Block
+with_arms b arms = record { number = b.number; marks = b.marks; end = b.end; weight = b.weight; arms = arms }

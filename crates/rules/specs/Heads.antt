@@ -2,18 +2,18 @@
 -- the classes of `cycles` are made.
 use Rattle.std.specs.Prelude.{ℕ, ◌/◌, max, Bool, not, ◌&&◌, List, [], ◌∷◌, eqb, leb, length, get_or, drop}
 use Rattle.rules.specs.Lists.{keep, any, foldl, mem, range}
-use Rattle.rules.specs.Graph.{Block, Graph, no_block, numbersOf, targets}
+use Rattle.rules.specs.Graph.{Block, Graph, no_block, numbers_of, targets}
 use Rattle.rules.specs.Spread.{least}
 
 -- block b has an arm in from a block of the set
-unfoldable pub reachedFrom : Graph → List ℕ → ℕ → Bool
+unfoldable pub reached_from : Graph → List ℕ → ℕ → Bool
 unfolding any mem targets
-reachedFrom g s b = any (λ (x : Block). mem x.number s && mem b (targets x)) g
+reached_from g s b = any (λ (x : Block). mem x.number s && mem b (targets x)) g
 
 -- the blocks that block a reaches by a chain of arms, itself among them
 unfoldable pub reach : Graph → ℕ → List ℕ
-unfolding reachedFrom least numbersOf
-reach g a = least (numbersOf g) (reachedFrom g) (a ∷ [])
+unfolding reached_from least numbers_of
+reach g a = least (numbers_of g) (reached_from g) (a ∷ [])
 
 -- "whose weights count for the hottest"
 unfoldable pub hottest : Graph → ℕ
@@ -21,21 +21,21 @@ unfolding foldl
 hottest g = foldl (λ (m : ℕ) (b : Block). max m b.weight) 0 g
 
 -- the least weight of a head: a hundredth of the hottest
-unfoldable pub headFloor : Graph → ℕ
+unfoldable pub head_floor : Graph → ℕ
 unfolding hottest
-headFloor g = hottest g / 100
+head_floor g = hottest g / 100
 
 -- the block at place i is a head: past the first place, heavy enough, and entered from its own or a later place whose block it reaches
-unfoldable pub headAt : Graph → ℕ → Bool
-unfolding headFloor reach any mem targets no_block
-headAt g i =
+unfoldable pub head_at : Graph → ℕ → Bool
+unfolding head_floor reach any mem targets no_block
+head_at g i =
     let b = get_or g i no_block in
-    leb 1 i && leb (headFloor g) b.weight && any (λ (c : Block). mem b.number (targets c) && mem c.number (reach g b.number)) (drop i g)
+    leb 1 i && leb (head_floor g) b.weight && any (λ (c : Block). mem b.number (targets c) && mem c.number (reach g b.number)) (drop i g)
 
 -- the places of the heads
 unfoldable pub heads : Graph → List ℕ
-unfolding headAt range keep
-heads g = keep (headAt g) (range 0 (length g))
+unfolding head_at range keep
+heads g = keep (head_at g) (range 0 (length g))
 
 -- each of the two reaches the other: they are of one mutual-reach class
 unfoldable pub together : Graph → ℕ → ℕ → Bool

@@ -3,7 +3,7 @@ use Rattle.std.specs.Prelude.{ℕ, zero, suc, ◌+◌, Bool, true, false, not, c
 use Rattle.std.proofs.Math.Option.{Option, none, some}
 use Rattle.limits.specs.Limits.{blocks}
 use Rattle.rules.specs.Lists.{best, first_or, last_or, concat, mem}
-use Rattle.rules.specs.Graph.{Arm, Graph, block_at, coldAt}
+use Rattle.rules.specs.Graph.{Arm, Graph, block_at, cold_at}
 
 -- an arm to the first block of the trace with this index
 pub record Link : Type 0 where
@@ -18,44 +18,44 @@ looser a b =
     && (ltb a.long b.long || (eqb a.long b.long && ltb b.index a.index)))
 
 -- the trace whose first block is n, the traces being counted from i
-unfoldable pub startingAt : ℕ → ℕ → List (List ℕ) → Option Link
+unfoldable pub starting_at : ℕ → ℕ → List (List ℕ) → Option Link
 unfolding first_or
-startingAt n i [] = none
-startingAt n i (t ∷ l) = elim (eqb (first_or blocks t) n) [ true ↦ some (record { weight = 0; long = length t; index = i }) | false ↦ startingAt n (i + 1) l ]
+starting_at n i [] = none
+starting_at n i (t ∷ l) = elim (eqb (first_or blocks t) n) [ true ↦ some (record { weight = 0; long = length t; index = i }) | false ↦ starting_at n (i + 1) l ]
 
 -- "the last block's arms to unused traces at their first block, same cold mark"
 unfoldable pub links : Graph → List (List ℕ) → List ℕ → Bool → List Arm → List Link
-unfolding startingAt mem coldAt
+unfolding starting_at mem cold_at
 links g ts used cold [] = []
 links g ts used cold (a ∷ l) =
     let r = links g ts used cold l in
-    elim (startingAt a.to 0 ts) [
+    elim (starting_at a.to 0 ts) [
       | none ↦ r
       | some k ↦
-          cond (mem k.index used || (coldAt g a.to && not cold) || (not (coldAt g a.to) && cold)) r
+          cond (mem k.index used || (cold_at g a.to && not cold) || (not (cold_at g a.to) && cold)) r
           (record { weight = a.weight; long = k.long; index = k.index } ∷ r)
     ]
 
 -- "heaviest, then longer trace, then earlier": the trace that follows, if any
-unfoldable pub nextTrace : Graph → List (List ℕ) → List ℕ → ℕ → Option Link
-unfolding links best looser last_or block_at coldAt
-nextTrace g ts used i =
+unfoldable pub next_trace : Graph → List (List ℕ) → List ℕ → ℕ → Option Link
+unfolding links best looser last_or block_at cold_at
+next_trace g ts used i =
     let n = last_or blocks (get_or ts i []) in
-    best looser none (links g ts used (coldAt g n) (block_at g n).arms)
+    best looser none (links g ts used (cold_at g n) (block_at g n).arms)
 
 -- "follow": the indices of the traces used, the last first, when trace i is laid and what follows it
 unfoldable pub follow : Graph → List (List ℕ) → ℕ → List ℕ → ℕ → List ℕ
-unfolding nextTrace
+unfolding next_trace
 follow g ts zero used i = i ∷ used
-follow g ts (suc k) used i = elim (nextTrace g ts (i ∷ used) i) [ none ↦ i ∷ used | some e ↦ follow g ts k (i ∷ used) e.index ]
+follow g ts (suc k) used i = elim (next_trace g ts (i ∷ used) i) [ none ↦ i ∷ used | some e ↦ follow g ts k (i ∷ used) e.index ]
 
 -- "From each unused trace in turn"
-unfoldable pub connectFrom : Graph → List (List ℕ) → List ℕ → ℕ → List (List ℕ) → List ℕ
+unfoldable pub connect_from : Graph → List (List ℕ) → List ℕ → ℕ → List (List ℕ) → List ℕ
 unfolding follow mem
-connectFrom g ts used i [] = used
-connectFrom g ts used i (t ∷ l) = connectFrom g ts (elim (mem i used) [ true ↦ used | false ↦ follow g ts (length ts) used i ]) (i + 1) l
+connect_from g ts used i [] = used
+connect_from g ts used i (t ∷ l) = connect_from g ts (elim (mem i used) [ true ↦ used | false ↦ follow g ts (length ts) used i ]) (i + 1) l
 
 -- the traces in the order that they are joined, as one list of blocks
 unfoldable pub connect : Graph → List (List ℕ) → List ℕ
-unfolding connectFrom concat
-connect g ts = concat (map (λ (i : ℕ). get_or ts i []) (reverse (connectFrom g ts [] 0 ts)))
+unfolding connect_from concat
+connect g ts = concat (map (λ (i : ℕ). get_or ts i []) (reverse (connect_from g ts [] 0 ts)))

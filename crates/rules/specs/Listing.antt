@@ -1,13 +1,13 @@
 -- Document 01, "The listing program": the lines of `blocklist`, as bytes.
 use Rattle.std.specs.Prelude.{ℕ, zero, suc, ◌+◌, ◌/◌, ◌%◌, Bool, true, cond, List, [], ◌∷◌, ◌++◌, eqb, ltb}
-use Rattle.limits.specs.Limits.{noSplit}
+use Rattle.limits.specs.Limits.{no_split}
 use Rattle.rules.specs.declared.Verdict.{Verdict}
-use Rattle.rules.specs.Graph.{Graph, isCold}
+use Rattle.rules.specs.Graph.{Graph, is_cold}
 use Rattle.rules.specs.Records.{records, graph_of}
 use Rattle.rules.specs.Refusals.{verdict}
-use Rattle.rules.specs.Exits.{Place, laidGraph}
-use Rattle.rules.specs.Heads.{headAt, looped}
-use Rattle.rules.specs.Laid.{layout, splitOf}
+use Rattle.rules.specs.Exits.{Place, laid_graph}
+use Rattle.rules.specs.Heads.{head_at, looped}
+use Rattle.rules.specs.Laid.{layout, split_of}
 
 -- ---- text
 
@@ -41,51 +41,51 @@ unfoldable pub letter : Bool → ℕ → ℕ → List ℕ
 letter c x y = cond c x y ∷ []
 
 -- `split`, `none`, `refused` and `at`
-abbrev pub splitWord : List ℕ
-splitWord = 115 ∷ 112 ∷ 108 ∷ 105 ∷ 116 ∷ []
+abbrev pub split_word : List ℕ
+split_word = 115 ∷ 112 ∷ 108 ∷ 105 ∷ 116 ∷ []
 
-abbrev pub noneWord : List ℕ
-noneWord = 110 ∷ 111 ∷ 110 ∷ 101 ∷ []
+abbrev pub none_word : List ℕ
+none_word = 110 ∷ 111 ∷ 110 ∷ 101 ∷ []
 
-abbrev pub refusedWord : List ℕ
-refusedWord = 114 ∷ 101 ∷ 102 ∷ 117 ∷ 115 ∷ 101 ∷ 100 ∷ []
+abbrev pub refused_word : List ℕ
+refused_word = 114 ∷ 101 ∷ 102 ∷ 117 ∷ 115 ∷ 101 ∷ 100 ∷ []
 
-abbrev pub atWord : List ℕ
-atWord = 97 ∷ 116 ∷ []
+abbrev pub at_word : List ℕ
+at_word = 97 ∷ 116 ∷ []
 
 -- ---- the lines
 
 -- "per place: place, B or + (bridge), number, weight, W or C, H or -, L or - [..], exit"
-unfoldable pub placeLine : Graph → ℕ → Place → List ℕ
-unfolding line decimal letter isCold headAt looped
-placeLine g i p =
+unfoldable pub place_line : Graph → ℕ → Place → List ℕ
+unfolding line decimal letter is_cold head_at looped
+place_line g i p =
     let b = p.block in
     line (
-    decimal i ∷ letter p.isBridge 43 66 ∷ decimal b.number ∷ decimal b.weight ∷ letter (isCold b.marks) 67 87
-    ∷ letter (headAt g i) 72 dash ∷ letter (looped g b.number) 76 dash ∷ decimal p.exit ∷ [])
+    decimal i ∷ letter p.is_bridge 43 66 ∷ decimal b.number ∷ decimal b.weight ∷ letter (is_cold b.marks) 67 87
+    ∷ letter (head_at g i) 72 dash ∷ letter (looped g b.number) 76 dash ∷ decimal p.exit ∷ [])
 
 -- the places from place i on
-unfoldable pub placeLines : Graph → ℕ → List Place → List ℕ
-unfolding placeLine
-placeLines g i [] = []
-placeLines g i (p ∷ l) = placeLine g i p ++ placeLines g (suc i) l
+unfoldable pub place_lines : Graph → ℕ → List Place → List ℕ
+unfolding place_line
+place_lines g i [] = []
+place_lines g i (p ∷ l) = place_line g i p ++ place_lines g (suc i) l
 
 -- "Last line: `split P` or `split none`."
-unfoldable pub splitLine : ℕ → List ℕ
+unfoldable pub split_line : ℕ → List ℕ
 unfolding line decimal
-splitLine split = line (splitWord ∷ cond (eqb split noSplit) noneWord (decimal split) ∷ [])
+split_line split = line (split_word ∷ cond (eqb split no_split) none_word (decimal split) ∷ [])
 
 -- "A refusal prints only `refused N at P`."
-unfoldable pub refusalLine : Verdict → List ℕ
+unfoldable pub refusal_line : Verdict → List ℕ
 unfolding line decimal
-refusalLine v = line (refusedWord ∷ decimal v.number ∷ atWord ∷ decimal v.place ∷ [])
+refusal_line v = line (refused_word ∷ decimal v.number ∷ at_word ∷ decimal v.place ∷ [])
 
 -- "blocklist [..] forwards, reorders, prints per place"; then the last line
-unfoldable pub listingOf : Graph → List ℕ
-unfolding layout laidGraph placeLines splitLine splitOf
-listingOf g = let l = layout true true g in placeLines (laidGraph l) 0 l ++ splitLine (splitOf true true g)
+unfoldable pub listing_of : Graph → List ℕ
+unfolding layout laid_graph place_lines split_line split_of
+listing_of g = let l = layout true true g in place_lines (laid_graph l) 0 l ++ split_line (split_of true true g)
 
 -- "`blocklist` reads records from standard input, forwards, reorders, prints"
 unfoldable pub blocklist : List ℕ → List ℕ
-unfolding verdict records graph_of listingOf refusalLine
-blocklist s = cond (eqb (verdict s).number 0) (listingOf (graph_of (records s))) (refusalLine (verdict s))
+unfolding verdict records graph_of listing_of refusal_line
+blocklist s = cond (eqb (verdict s).number 0) (listing_of (graph_of (records s))) (refusal_line (verdict s))

@@ -2,7 +2,7 @@
 use Rattle.std.specs.Prelude.{ℕ, zero, suc, true, false, not, List, [], ◌∷◌, ◌++◌, reverse, length}
 use Rattle.std.proofs.Math.Option.{none, some}
 use Rattle.rules.specs.Lists.{keep, foldl, mem}
-use Rattle.rules.specs.Graph.{Graph, block_at, numbersOf, targets, entry}
+use Rattle.rules.specs.Graph.{Graph, block_at, numbers_of, targets, entry}
 
 -- the blocks seen, and those finished, the last first
 pub record Walk : Type 0 where
@@ -22,10 +22,10 @@ visit g (suc k) w n = elim (mem n w.seen) [
 
 -- "from the entry [..]; reverse finishing order; then unreached blocks as listed"
 unfoldable pub order : Graph → List ℕ
-unfolding visit keep entry numbersOf mem
+unfolding visit keep entry numbers_of mem
 order g = elim (entry g) [
-  | none ↦ numbersOf g
+  | none ↦ numbers_of g
   | some e ↦
       let w = visit g (length g) (record { seen = []; done = [] }) e in
-      w.done ++ keep (λ (n : ℕ). not (mem n w.seen)) (numbersOf g)
+      w.done ++ keep (λ (n : ℕ). not (mem n w.seen)) (numbers_of g)
 ]

@@ -3,18 +3,18 @@ use Rattle.std.specs.Prelude.{ℕ, ◌+◌, Bool, true, false, not, cond, ◌&&�
 use Rattle.std.proofs.Math.Option.{Option, none, some}
 use Rattle.limits.specs.Limits.{blocks}
 use Rattle.rules.specs.Lists.{keep, any, best, last_or, mem}
-use Rattle.rules.specs.Graph.{Arm, Block, Graph, isWalking, block_at, entry, names}
-use Rattle.rules.specs.Weights.{overFourFifths}
+use Rattle.rules.specs.Graph.{Arm, Block, Graph, is_walking, block_at, entry, names}
+use Rattle.rules.specs.Weights.{over_four_fifths}
 
 -- "take the last block's heaviest arm, LAST on ties"
-unfoldable pub backArm : Block → Option Arm
+unfoldable pub back_arm : Block → Option Arm
 unfolding best
-backArm b = best (λ (x y : Arm). leb x.weight y.weight) none b.arms
+back_arm b = best (λ (x y : Arm). leb x.weight y.weight) none b.arms
 
 -- the blocks of a trace before block n, and those from it to the end
-unfoldable pub leadIn : ℕ → List ℕ → List ℕ
-leadIn n [] = []
-leadIn n (x ∷ l) = elim (eqb x n) [ true ↦ [] | false ↦ x ∷ leadIn n l ]
+unfoldable pub lead_in : ℕ → List ℕ → List ℕ
+lead_in n [] = []
+lead_in n (x ∷ l) = elim (eqb x n) [ true ↦ [] | false ↦ x ∷ lead_in n l ]
 
 -- the part of the trace "from target to end", where n is the target
 unfoldable pub cycle : ℕ → List ℕ → List ℕ
@@ -24,10 +24,10 @@ cycle n (x ∷ l) = elim (eqb x n) [ true ↦ x ∷ l | false ↦ cycle n l ]
 -- "its target must be in the trace, not the last block, not the entry; 5 x arm > 4 x target weight; no walking block from target
 -- to end"
 unfoldable pub turns : Graph → ℕ → Arm → List ℕ → Bool
-unfolding mem any block_at isWalking names entry cycle overFourFifths
+unfolding mem any block_at is_walking names entry cycle over_four_fifths
 turns g last a trace =
-    mem a.to trace && not (eqb a.to last) && not (names (entry g) a.to) && overFourFifths a.weight (block_at g a.to).weight
-    && not (any (λ (n : ℕ). isWalking (block_at g n).marks) (cycle a.to trace))
+    mem a.to trace && not (eqb a.to last) && not (names (entry g) a.to) && over_four_fifths a.weight (block_at g a.to).weight
+    && not (any (λ (n : ℕ). is_walking (block_at g n).marks) (cycle a.to trace))
 
 -- an arm that leaves the part, from its block at `index`
 pub record WayOut : Type 0 where
@@ -40,32 +40,32 @@ unfoldable pub worse : WayOut → WayOut → Bool
 worse a b = ltb a.preferred b.preferred || (eqb a.preferred b.preferred && ltb a.weight b.weight)
 
 -- "Among that part's blocks with at most two arms, an exit leaves the part"
-unfoldable pub waysOut : Graph → (ℕ → Bool) → List ℕ → ℕ → List ℕ → List WayOut
+unfoldable pub ways_out : Graph → (ℕ → Bool) → List ℕ → ℕ → List ℕ → List WayOut
 unfolding keep mem block_at
-waysOut g preferred part i [] = []
-waysOut g preferred part i (n ∷ l) =
+ways_out g preferred part i [] = []
+ways_out g preferred part i (n ∷ l) =
     let b = block_at g n in
     cond (leb (length b.arms) 2)
     (map (λ (a : Arm). record { preferred = cond (preferred a.to) 1 0; weight = a.weight; index = i }) (keep (λ (a : Arm). not (mem a.to part)) b.arms))
     []
-    ++ waysOut g preferred part (i + 1) l
+    ++ ways_out g preferred part (i + 1) l
 
 -- "The exit's block goes last by turning the part; with no exit nothing turns."
 unfoldable pub turned : Graph → (ℕ → Bool) → List ℕ → List ℕ
-unfolding waysOut best worse
+unfolding ways_out best worse
 turned g preferred part =
-    elim (best worse none (waysOut g preferred part 0 part)) [ none ↦ part | some w ↦ drop (w.index + 1) part ++ take (w.index + 1) part ]
+    elim (best worse none (ways_out g preferred part 0 part)) [ none ↦ part | some w ↦ drop (w.index + 1) part ++ take (w.index + 1) part ]
 
 -- the trace as it ends; `laid` holds its own blocks too, `starts` the first blocks of earlier traces alone
 unfoldable pub rotate : Graph → List ℕ → List ℕ → List ℕ → List ℕ
-unfolding turns turned leadIn cycle backArm last_or block_at mem
+unfolding turns turned lead_in cycle back_arm last_or block_at mem
 rotate g laid starts trace =
     let last = last_or blocks trace in
-    elim (backArm (block_at g last)) [
+    elim (back_arm (block_at g last)) [
       | none ↦ trace
       | some a ↦ elim (turns g last a trace) [
         | false ↦ trace
         | true ↦
-            leadIn a.to trace ++ turned g (λ (n : ℕ). not (mem n laid) || mem n starts) (cycle a.to trace)
+            lead_in a.to trace ++ turned g (λ (n : ℕ). not (mem n laid) || mem n starts) (cycle a.to trace)
       ]
     ]

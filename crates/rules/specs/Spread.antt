@@ -4,7 +4,7 @@ use Rattle.std.specs.Prelude.{Bool, not, ◌&&◌, ◌||◌, List, map, eqb, len
 use Rattle.std.proofs.Math.Bool.{true, false}
 use Rattle.std.proofs.Math.Option.{Option, none, some}
 use Rattle.rules.specs.Lists.{keep, all, mem}
-use Rattle.rules.specs.Graph.{Block, Graph, isCold, coldAt, numbersOf, targets, entry, names}
+use Rattle.rules.specs.Graph.{Block, Graph, is_cold, cold_at, numbers_of, targets, entry, names}
 
 -- ---- "the least set": sweeps over all numbers until nothing joins
 
@@ -28,44 +28,44 @@ module _ (everything : List ℕ) (joins : List ℕ → ℕ → Bool) where
 -- ---- the cold set
 
 -- the blocks with an arm to block n: its ways in
-unfoldable pub waysIn : Graph → ℕ → List ℕ
+unfoldable pub ways_in : Graph → ℕ → List ℕ
 unfolding keep mem targets
-waysIn g n = map (λ (b : Block). b.number) (keep (λ (b : Block). mem n (targets b)) g)
+ways_in g n = map (λ (b : Block). b.number) (keep (λ (b : Block). mem n (targets b)) g)
 
 -- "every non-entry block with at least one way in and all ways in inside the set"
-unfoldable pub shutIn : Graph → Option ℕ → List ℕ → ℕ → Bool
-unfolding waysIn mem all names
-shutIn g e s n = let i = waysIn g n in not (names e n) && not (eqb (length i) 0) && all (λ (m : ℕ). mem m s) i
+unfoldable pub shut_in : Graph → Option ℕ → List ℕ → ℕ → Bool
+unfolding ways_in mem all names
+shut_in g e s n = let i = ways_in g n in not (names e n) && not (eqb (length i) 0) && all (λ (m : ℕ). mem m s) i
 
 -- "the least set holding the cold blocks and [those]"
-unfoldable pub coldFrom : Graph → Option ℕ → List ℕ → List ℕ
-unfolding shutIn least numbersOf
-coldFrom g e s = least (numbersOf g) (shutIn g e) s
+unfoldable pub cold_from : Graph → Option ℕ → List ℕ → List ℕ
+unfolding shut_in least numbers_of
+cold_from g e s = least (numbers_of g) (shut_in g e) s
 
 -- the blocks that are cold as read
-unfoldable pub coldBlocks : Graph → List ℕ
-unfolding keep isCold
-coldBlocks g = map (λ (b : Block). b.number) (keep (λ (b : Block). isCold b.marks) g)
+unfoldable pub cold_blocks : Graph → List ℕ
+unfolding keep is_cold
+cold_blocks g = map (λ (b : Block). b.number) (keep (λ (b : Block). is_cold b.marks) g)
 
 -- "a warm entry"
-unfoldable pub warmEntry : Graph → Bool
-unfolding entry coldAt
-warmEntry g = elim (entry g) [ none ↦ false | some e ↦ not (coldAt g e) ]
+unfoldable pub warm_entry : Graph → Bool
+unfolding entry cold_at
+warm_entry g = elim (entry g) [ none ↦ false | some e ↦ not (cold_at g e) ]
 
 -- "Only with a warm entry and some cold block"
 unfoldable pub spreads : Graph → Bool
-unfolding warmEntry coldBlocks
-spreads g = warmEntry g && not (eqb (length (coldBlocks g)) 0)
+unfolding warm_entry cold_blocks
+spreads g = warm_entry g && not (eqb (length (cold_blocks g)) 0)
 
 -- the cold blocks after spreading: as read where nothing spreads
-unfoldable pub coldSet : Graph → List ℕ
-unfolding spreads coldBlocks coldFrom entry
-coldSet g = elim (spreads g) [ true ↦ coldFrom g (entry g) (coldBlocks g) | false ↦ coldBlocks g ]
+unfoldable pub cold_set : Graph → List ℕ
+unfolding spreads cold_blocks cold_from entry
+cold_set g = elim (spreads g) [ true ↦ cold_from g (entry g) (cold_blocks g) | false ↦ cold_blocks g ]
 
 -- mark 1 for a block of the set
 unfoldable pub chilled : List ℕ → Block → Block
-unfolding mem isCold
-chilled s b = elim (mem b.number s && not (isCold b.marks)) [
+unfolding mem is_cold
+chilled s b = elim (mem b.number s && not (is_cold b.marks)) [
   | false ↦ b
   | true ↦
       record { number = b.number; marks = b.marks + 2; end = b.end; weight = b.weight; arms = b.arms }
@@ -73,5 +73,5 @@ chilled s b = elim (mem b.number s && not (isCold b.marks)) [
 
 -- the graph with them marked
 unfoldable pub spread : Graph → Graph
-unfolding coldSet chilled
-spread g = let s = coldSet g in map (chilled s) g
+unfolding cold_set chilled
+spread g = let s = cold_set g in map (chilled s) g

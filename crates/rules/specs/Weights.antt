@@ -21,5 +21,5 @@ unfoldable pub floor : ℕ → ℕ → ℕ
 floor entered often = entered * often / scale
 
 -- "5 x arm > 4 x target weight"
-unfoldable pub overFourFifths : ℕ → ℕ → Bool
-overFourFifths arm target = ltb (4 * target) (5 * arm)
+unfoldable pub over_four_fifths : ℕ → ℕ → Bool
+over_four_fifths arm target = ltb (4 * target) (5 * arm)

@@ -1,5 +1,7 @@
 // What the rules and the code both speak of. The rules themselves are definitions: specs/ holds document 01,
 // one file a section, and proofs/ what we have proved of it.
+#![tactic(auto)]
+
 // One record, taken apart; `Outside` where a field is outside the layout.
 #[derive(Drop)]
 pub enum Record {

@@ -11,47 +11,47 @@ use lib.ListN.{length, get_or, take, drop, set, length-set, length-take, length-
 use lib.Seq.{slice, slice-cons, slice_empty, ext_get_or, get_or-take, get_or-drop, take-take, take_all, get_or-set_same, get_or-set_other, take-suc-set, take-set-le, take-suc, drop-append-le, length-take-le}
 use borrow.Author.Tests.{le-leb, lt-ltb, le-ltb, lt-leb}
 use Rattle.limits.specs.Limits.{blocks}
-use Rattle.lists.proofs.Choices.{split-lt}
+use Rattle.lists.proofs.Choices.{split_lt}
 use Rattle.rules.specs.Lists.{keep}
 use Rattle.rules.specs.Traces.{Seed, below}
-use Rattle.rules.proofs.ChoiceRules.{below-ranks}
+use Rattle.rules.proofs.ChoiceRules.{below_ranks}
 use Rattle.marks.specs.Sets.{member}
 use Rattle.seeds.specs.declared.Start.{Start}
 use Rattle.seeds.specs.declared.Start.TheVariants.{At, Nothing}
 use Rattle.seeds.specs.Spans.{width, spans, unknown, Known}
-use Rattle.seeds.specs.Starts.{seedBy, startableBy, ahead, met, chosen}
-use Rattle.seeds.proofs.SpanLaws.{split-same}
-use Rattle.seeds.specs.Looks.{free, Low, Small, Looked, spanAt, leftIn, start_in, Spanned, Left, bestIn, Knows, Told, Searched}
-use Rattle.seeds.proofs.StartLaws.{chosen-starts}
+use Rattle.seeds.specs.Starts.{seed_by, startable_by, ahead, met, chosen}
+use Rattle.seeds.proofs.SpanLaws.{split_same}
+use Rattle.seeds.specs.Looks.{free, Low, Small, Looked, span_at, left_in, start_in, Spanned, Left, best_in, Knows, Told, Searched}
+use Rattle.seeds.proofs.StartLaws.{chosen_starts}
 
 -- ---- what is known
-pub start-at : (k : ℕ) → k < blocks → start_in k ≡ At k
+pub start_at : (k : ℕ) → k < blocks → start_in k ≡ At k
 unfolding start_in
-start-at k h = rw (lt-ltb k blocks h) refl
+start_at k h = rw (lt-ltb k blocks h) refl
 
 pub start_none : (k : ℕ) → blocks ≤ k → start_in k ≡ Nothing
 unfolding start_in
 start_none k h = rw (le-ltb k blocks h) refl
 
 -- ---- block by block
-pub tried-yes : (seed : ℕ → Seed) (low w n : ℕ) (s : Start) → low ≤ w → ahead seed s n ≡ cond (leb low w) (ahead seed s n) s
-tried-yes seed low w n s h = rw (le-leb low w h) refl
+pub tried_yes : (seed : ℕ → Seed) (low w n : ℕ) (s : Start) → low ≤ w → ahead seed s n ≡ cond (leb low w) (ahead seed s n) s
+tried_yes seed low w n s h = rw (le-leb low w h) refl
 
-pub tried-no : (seed : ℕ → Seed) (low w n : ℕ) (s : Start) → w < low → s ≡ cond (leb low w) (ahead seed s n) s
-tried-no seed low w n s h = rw (lt-leb low w h) refl
+pub tried_no : (seed : ℕ → Seed) (low w n : ℕ) (s : Start) → w < low → s ≡ cond (leb low w) (ahead seed s n) s
+tried_no seed low w n s h = rw (lt-leb low w h) refl
 
-ahead-low : (seed : ℕ → Seed) (s : Start) (n : ℕ) → n < blocks → Low s → Low (ahead seed s n)
+ahead_low : (seed : ℕ → Seed) (s : Start) (n : ℕ) → n < blocks → Low s → Low (ahead seed s n)
 unfolding ahead
-ahead-low seed Nothing n h k = h
-ahead-low seed (At x) n h k = go (below (seed x) (seed n))
+ahead_low seed Nothing n h k = h
+ahead_low seed (At x) n h k = go (below (seed x) (seed n))
   where
     go : (t : Bool) → Low (cond t (At n) (At x))
     go true = h
     go false = k
 
-pub tried-low : (seed : ℕ → Seed) (t : Bool) (s : Start) (n : ℕ) → n < blocks → Low s → Low (cond t (ahead seed s n) s)
-tried-low seed true s n h k = ahead-low seed s n h k
-tried-low seed false s n h k = k
+pub tried_low : (seed : ℕ → Seed) (t : Bool) (s : Start) (n : ℕ) → n < blocks → Low s → Low (cond t (ahead seed s n) s)
+tried_low seed true s n h k = ahead_low seed s n h k
+tried_low seed false s n h k = k
 
 -- ---- two lists
 is_true : (b : Bool) → T b → b ≡ true
@@ -59,25 +59,25 @@ is_true true t = refl
 is_true false t = absurd t
 
 up : (a b c : Seed) → below a b ≡ true → below b c ≡ true → below a c ≡ true
-up a b c e f = is_true (below a c) (below-ranks.past a b c (rw e tt) (rw f tt))
+up a b c e f = is_true (below a c) (below_ranks.past a b c (rw e tt) (rw f tt))
 
 flat : (a b c : Seed) → below a b ≡ false → below b c ≡ false → below a c ≡ false
 flat a b c e f = go (below a c) refl
   where
     go : (t : Bool) → below a c ≡ t → t ≡ false
-    go true q = absurd (true≢false (sym (is_true (below b c) (below-ranks.level a b c (rw e tt) (rw q tt))) ∙ f))
+    go true q = absurd (true≢false (sym (is_true (below b c) (below_ranks.level a b c (rw e tt) (rw q tt))) ∙ f))
     go false q = refl
 
 module _ (seed : ℕ → Seed) where
   -- the first of the greatest is that of the greatest of two parts
-  ahead-two : (s : Start) (x n : ℕ) → ahead seed (ahead seed s x) n ≡ met seed s (ahead seed (At x) n)
+  ahead_two : (s : Start) (x n : ℕ) → ahead seed (ahead seed s x) n ≡ met seed s (ahead seed (At x) n)
   unfolding ahead met
-  ahead-two Nothing x n = go (below (seed x) (seed n))
+  ahead_two Nothing x n = go (below (seed x) (seed n))
     where
       go : (t : Bool) → cond t (At n) (At x) ≡ met seed Nothing (cond t (At n) (At x))
       go true = refl
       go false = refl
-  ahead-two (At b) x n = go (below (seed b) (seed x)) (below (seed x) (seed n)) refl refl
+  ahead_two (At b) x n = go (below (seed b) (seed x)) (below (seed x) (seed n)) refl refl
     where
       go : (t u : Bool) → below (seed b) (seed x) ≡ t → below (seed x) (seed n) ≡ u → ahead seed (cond t (At x) (At b)) n ≡ met seed (At b) (cond u (At n) (At x))
       go true true e f = rw (f, up (seed b) (seed x) (seed n) e f) refl
@@ -85,58 +85,58 @@ module _ (seed : ℕ → Seed) where
       go false true e f = refl
       go false false e f = rw (e, flat (seed b) (seed x) (seed n) e f) refl
 
-  ahead-met : (s r : Start) (n : ℕ) → ahead seed (met seed s r) n ≡ met seed s (ahead seed r n)
+  ahead_met : (s r : Start) (n : ℕ) → ahead seed (met seed s r) n ≡ met seed s (ahead seed r n)
   unfolding ahead met
-  ahead-met s Nothing n = refl
-  ahead-met s (At x) n = ahead-two s x n
+  ahead_met s Nothing n = refl
+  ahead_met s (At x) n = ahead_two s x n
 
-  pub met-nothing : (s r : Start) → r ≡ Nothing → s ≡ met seed s r
+  pub met_nothing : (s r : Start) → r ≡ Nothing → s ≡ met seed s r
   unfolding met
-  met-nothing s r e = rw e refl
+  met_nothing s r e = rw e refl
 
   pub met_at : (s r : Start) (n : ℕ) → r ≡ At n → ahead seed s n ≡ met seed s r
   unfolding met
   met_at s r n e = rw e refl
 
 module _ (p : ℕ → Bool) (seed : ℕ → Seed) where
-  chosen-append : (s : Start) (l k : List ℕ) → chosen p seed s (l ++ k) ≡ chosen p seed (chosen p seed s l) k
+  chosen_append : (s : Start) (l k : List ℕ) → chosen p seed s (l ++ k) ≡ chosen p seed (chosen p seed s l) k
   unfolding chosen
-  chosen-append s [] k = refl
-  chosen-append s (n ∷ l) k = chosen-append (cond (p n) (ahead seed s n) s) l k
+  chosen_append s [] k = refl
+  chosen_append s (n ∷ l) k = chosen_append (cond (p n) (ahead seed s n) s) l k
 
-  met-chosen : (s r : Start) (l : List ℕ) → chosen p seed (met seed s r) l ≡ met seed s (chosen p seed r l)
+  met_chosen : (s r : Start) (l : List ℕ) → chosen p seed (met seed s r) l ≡ met seed s (chosen p seed r l)
   unfolding chosen
-  met-chosen s r [] = refl
-  met-chosen s r (n ∷ l) = go (p n) (λ (r : Start). met-chosen s r l)
+  met_chosen s r [] = refl
+  met_chosen s r (n ∷ l) = go (p n) (λ (r : Start). met_chosen s r l)
     where
       go : (t : Bool) → ((r : Start) → chosen p seed (met seed s r) l ≡ met seed s (chosen p seed r l))
           → chosen p seed (cond t (ahead seed (met seed s r) n) (met seed s r)) l ≡ met seed s (chosen p seed (cond t (ahead seed r n) r) l)
-      go true ih = ap (λ (x : Start). chosen p seed x l) (ahead-met seed s r n) ∙ ih (ahead seed r n)
+      go true ih = ap (λ (x : Start). chosen p seed x l) (ahead_met seed s r n) ∙ ih (ahead seed r n)
       go false ih = ih r
 
   -- the best of two lists is the better of their bests
-  pub chosen-two : (l k : List ℕ) → chosen p seed Nothing (l ++ k) ≡ met seed (chosen p seed Nothing l) (chosen p seed Nothing k)
+  pub chosen_two : (l k : List ℕ) → chosen p seed Nothing (l ++ k) ≡ met seed (chosen p seed Nothing l) (chosen p seed Nothing k)
   unfolding met
-  chosen-two l k = chosen-append Nothing l k ∙ met-chosen (chosen p seed Nothing l) Nothing k
+  chosen_two l k = chosen_append Nothing l k ∙ met_chosen (chosen p seed Nothing l) Nothing k
 
 -- ---- what is not laid
 module _ (p q : ℕ → Bool) (seed : ℕ → Seed) (imp : (n : ℕ) → q n ≡ false → p n ≡ false) where
   -- where what passes one test passes another, the best is that of those that pass the other
-  chosen-keep : (s : Start) (l : List ℕ) → chosen p seed s (keep q l) ≡ chosen p seed s l
+  chosen_keep : (s : Start) (l : List ℕ) → chosen p seed s (keep q l) ≡ chosen p seed s l
   unfolding chosen keep
-  chosen-keep s [] = refl
-  chosen-keep s (n ∷ l) = go (q n) refl (λ (s : Start). chosen-keep s l)
+  chosen_keep s [] = refl
+  chosen_keep s (n ∷ l) = go (q n) refl (λ (s : Start). chosen_keep s l)
     where
       go : (t : Bool) → q n ≡ t → ((s : Start) → chosen p seed s (keep q l) ≡ chosen p seed s l)
           → chosen p seed s (cond t (n ∷ keep q l) (keep q l)) ≡ chosen p seed (cond (p n) (ahead seed s n) s) l
       go true e ih = ih (cond (p n) (ahead seed s n) s)
       go false e ih = rw (imp n e) (ih s)
 
-  pub chosen-same : (l k : List ℕ) → keep q l ≡ keep q k → chosen p seed Nothing l ≡ chosen p seed Nothing k
-  chosen-same l k e = sym (chosen-keep Nothing l) ∙ ap (chosen p seed Nothing) e ∙ chosen-keep Nothing k
+  pub chosen_same : (l k : List ℕ) → keep q l ≡ keep q k → chosen p seed Nothing l ≡ chosen p seed Nothing k
+  chosen_same l k e = sym (chosen_keep Nothing l) ∙ ap (chosen p seed Nothing) e ∙ chosen_keep Nothing k
 
-pub unfree : (weight seen : List ℕ) (low n : ℕ) → free seen n ≡ false → startableBy weight seen low n ≡ false
-unfolding free startableBy
+pub unfree : (weight seen : List ℕ) (low n : ℕ) → free seen n ≡ false → startable_by weight seen low n ≡ false
+unfolding free startable_by
 unfree weight seen low n e = go (member seen n) e
   where
     go : (b : Bool) → not b ≡ false → not b && leb low (get_or weight n 0) ≡ false
@@ -153,10 +153,10 @@ keep_append p (x ∷ l) k = go (p x) (keep_append p l k)
     go false e = e
 
 -- what is kept by a narrower test can be kept by the wider one before
-pub keep-keep : (p q : ℕ → Bool) (l : List ℕ) → ((n : ℕ) → q n ≡ false → p n ≡ false) → keep p (keep q l) ≡ keep p l
+pub keep_keep : (p q : ℕ → Bool) (l : List ℕ) → ((n : ℕ) → q n ≡ false → p n ≡ false) → keep p (keep q l) ≡ keep p l
 unfolding keep
-keep-keep p q [] imp = refl
-keep-keep p q (x ∷ l) imp = go (q x) refl (keep-keep p q l imp)
+keep_keep p q [] imp = refl
+keep_keep p q (x ∷ l) imp = go (q x) refl (keep_keep p q l imp)
   where
     go : (t : Bool) → q x ≡ t → keep p (keep q l) ≡ keep p l → keep p (cond t (x ∷ keep q l) (keep q l)) ≡ cond (p x) (x ∷ keep p l) (keep p l)
     go true e ih = ap (λ (r : List ℕ). cond (p x) (x ∷ r) r) ih
@@ -167,11 +167,11 @@ unfolding keep
 keep_one p l n t e = keep_append p l (n ∷ []) ∙ rw e refl
 
 -- ---- a look, place by place
-slice-more : (l : List ℕ) (a i : ℕ) → a ≤ i → i < length l → slice a (i + 1) l ≡ slice a i l ++ (get_or l i 0 ∷ [])
-slice-more l a i h k = rw add-one (ap (drop a) (take-suc l i 0 k) ∙ drop-append-le a (take i l) (get_or l i 0 ∷ []) (omega (arith, h, length-take-le i l (omega (arith, k)))))
+slice_more : (l : List ℕ) (a i : ℕ) → a ≤ i → i < length l → slice a (i + 1) l ≡ slice a i l ++ (get_or l i 0 ∷ [])
+slice_more l a i h k = rw add-one (ap (drop a) (take-suc l i 0 k) ∙ drop-append-le a (take i l) (get_or l i 0 ∷ []) (omega (arith, h, length-take-le i l (omega (arith, k)))))
 
-slice-put : (l : List ℕ) (a i v : ℕ) → a ≤ i → i < length l → slice a (i + 1) (set l i v) ≡ slice a i l ++ (v ∷ [])
-slice-put l a i v h k = rw add-one (ap (drop a) (take-suc-set l i v k) ∙ drop-append-le a (take i l) (v ∷ []) (omega (arith, h, length-take-le i l (omega (arith, k)))))
+slice_put : (l : List ℕ) (a i v : ℕ) → a ≤ i → i < length l → slice a (i + 1) (set l i v) ≡ slice a i l ++ (v ∷ [])
+slice_put l a i v h k = rw add-one (ap (drop a) (take-suc-set l i v k) ∙ drop-append-le a (take i l) (v ∷ []) (omega (arith, h, length-take-le i l (omega (arith, k)))))
 
 -- the places from `from` up to i have been looked at, and `kept` is where those of them end that are left
 pub record Looking (seen : List ℕ) (from end : ℕ) (left₀ left : List ℕ) (best : Start) (kept i : ℕ) : Type 0 where
@@ -182,12 +182,12 @@ pub record Looking (seen : List ℕ) (from end : ℕ) (left₀ left : List ℕ) 
   pub left_is : slice from kept left ≡ keep (free seen) (slice from i left₀)
   pub other : (x : ℕ) → (x < from) ⊎ (i ≤ x) → get_or left x 0 ≡ get_or left₀ x 0
   pub small : Small left from kept
-  pub best-low : Low best
+  pub best_low : Low best
 
 module _ (seen : List ℕ) (from end : ℕ) (left₀ : List ℕ) (z : length left₀ ≡ blocks) (h : from ≤ end) (k : end ≤ blocks) (s₀ : Small left₀ from end) where
-  pub looking-first : Looking seen from end left₀ left₀ Nothing from from
+  pub looking_first : Looking seen from end left₀ left₀ Nothing from from
   unfolding keep
-  looking-first = record {
+  looking_first = record {
     low = omega arith;
     high = omega arith;
     inside = h;
@@ -195,22 +195,22 @@ module _ (seen : List ℕ) (from end : ℕ) (left₀ : List ℕ) (z : length lef
     left_is = rw (slice_empty from left₀) refl;
     other = λ x o. refl;
     small = λ x a b. absurd (omega (arith, a, b));
-    best-low = tt;
+    best_low = tt;
   }
 
   module _ (left : List ℕ) (best : Start) (kept i : ℕ) (v : Looking seen from end left₀ left best kept i) (lt : i < end) (n : ℕ) (is : n ≡ get_or left i 0) where
     pub was : n ≡ get_or left₀ i 0
     was = is ∙ v.other i (inr (omega arith))
 
-    pub block-low : n < blocks
-    block-low = let e = was in let b = s₀ i (omega (arith, v.low, v.high)) lt in omega (arith, e, b)
+    pub block_low : n < blocks
+    block_low = let e = was in let b = s₀ i (omega (arith, v.low, v.high)) lt in omega (arith, e, b)
 
     more : slice from (i + 1) left₀ ≡ slice from i left₀ ++ (n ∷ [])
-    more = slice-more left₀ from i (omega (arith, v.low, v.high)) (omega (arith, z, k, lt)) ∙ ap (λ (m : ℕ). slice from i left₀ ++ (m ∷ [])) (sym was)
+    more = slice_more left₀ from i (omega (arith, v.low, v.high)) (omega (arith, z, k, lt)) ∙ ap (λ (m : ℕ). slice from i left₀ ++ (m ∷ [])) (sym was)
 
     -- a laid block is left out
-    pub looking-laid : free seen n ≡ false → Looking seen from end left₀ left best kept (i + 1)
-    looking-laid f = record {
+    pub looking_laid : free seen n ≡ false → Looking seen from end left₀ left best kept (i + 1)
+    looking_laid f = record {
       low = v.low;
       high = omega (arith, v.high);
       inside = omega (arith, lt);
@@ -218,27 +218,27 @@ module _ (seen : List ℕ) (from end : ℕ) (left₀ : List ℕ) (z : length lef
       left_is = v.left_is ∙ sym (ap (keep (free seen)) more ∙ keep_one (free seen) (slice from i left₀) n false f ∙ append-nil (keep (free seen) (slice from i left₀)));
       other = λ x o. v.other x (⊎_elim (λ a. inl a) (λ a. inr (omega (arith, a))) o);
       small = v.small;
-      best-low = v.best-low;
+      best_low = v.best_low;
     }
 
     -- another is put behind those that are left
-    pub looking-left : free seen n ≡ true → (left' : List ℕ) → left' ≡ set left kept n → (r : Start) → Low r → Looking seen from end left₀ left' r (kept + 1) (i + 1)
-    looking-left f left' e r b = rw e (
+    pub looking_left : free seen n ≡ true → (left' : List ℕ) → left' ≡ set left kept n → (r : Start) → Low r → Looking seen from end left₀ left' r (kept + 1) (i + 1)
+    looking_left f left' e r b = rw e (
         record {
           low = omega (arith, v.low);
           high = omega (arith, v.high);
           inside = omega (arith, lt);
           sized = length-set left kept n ∙ v.sized;
-          left_is = slice-put left from kept n v.low (omega (arith, v.high, v.sized, k, lt)) ∙ ap (λ (l : List ℕ). l ++ (n ∷ [])) v.left_is ∙ sym (ap (keep (free seen)) more ∙ keep_one (free seen) (slice from i left₀) n true f);
+          left_is = slice_put left from kept n v.low (omega (arith, v.high, v.sized, k, lt)) ∙ ap (λ (l : List ℕ). l ++ (n ∷ [])) v.left_is ∙ sym (ap (keep (free seen)) more ∙ keep_one (free seen) (slice from i left₀) n true f);
           other = λ x o. get_or-set_other left kept x n 0 (λ q. ⊎_elim (λ a. omega (arith, a, q, v.low)) (λ a. omega (arith, a, q, v.high)) o) ∙ v.other x (⊎_elim (λ a. inl a) (λ a. inr (omega (arith, a))) o);
-          small = λ x a c. split-same x kept
-              (λ q. rw (q, get_or-set_same left kept n 0 (omega (arith, v.high, v.sized, k, lt))) block-low)
+          small = λ x a c. split_same x kept
+              (λ q. rw (q, get_or-set_same left kept n 0 (omega (arith, v.high, v.sized, k, lt))) block_low)
               (λ q. rw (get_or-set_other left kept x n 0 q) (v.small x a (omega (arith, c, q))));
-          best-low = b;
+          best_low = b;
         })
 
-  pub looking-last : (left : List ℕ) (best : Start) (kept i : ℕ) → Looking seen from end left₀ left best kept i → end ≤ i → Looked seen from end left₀ left kept
-  looking-last left best kept i v h =
+  pub looking_last : (left : List ℕ) (best : Start) (kept i : ℕ) → Looking seen from end left₀ left best kept i → end ≤ i → Looked seen from end left₀ left kept
+  looking_last left best kept i v h =
       let e : i ≡ end = omega (arith, h, v.inside) in
       record {
         sized = v.sized;
@@ -249,13 +249,13 @@ module _ (seen : List ℕ) (from end : ℕ) (left₀ : List ℕ) (z : length lef
         small = v.small;
       }
 
-pub free-not : (seen : List ℕ) (n : ℕ) (t : Bool) → t ≡ member seen n → free seen n ≡ not t
+pub free_not : (seen : List ℕ) (n : ℕ) (t : Bool) → t ≡ member seen n → free seen n ≡ not t
 unfolding free
-free-not seen n t e = rw (sym e) refl
+free_not seen n t e = rw (sym e) refl
 
 -- ---- a span that is looked at, among the others
-slice-same : (l k : List ℕ) (a b : ℕ) → length l ≡ length k → ((x : ℕ) → a ≤ x → x < b → get_or l x 0 ≡ get_or k x 0) → slice a b l ≡ slice a b k
-slice-same l k a b z h = ext_get_or 0 (slice a b l) (slice a b k) long (λ i lt. at l i (inside i lt) ∙ h (a + i) (omega arith) (inside i lt) ∙ sym (at k i (inside i lt)))
+slice_same : (l k : List ℕ) (a b : ℕ) → length l ≡ length k → ((x : ℕ) → a ≤ x → x < b → get_or l x 0 ≡ get_or k x 0) → slice a b l ≡ slice a b k
+slice_same l k a b z h = ext_get_or 0 (slice a b l) (slice a b k) long (λ i lt. at l i (inside i lt) ∙ h (a + i) (omega arith) (inside i lt) ∙ sym (at k i (inside i lt)))
   where
     long : length (slice a b l) ≡ length (slice a b k)
     long = length-drop a (take b l) ∙ ap (λ (n : ℕ). n - a) (length-take b l ∙ ap (min b) z ∙ sym (length-take b k)) ∙ sym (length-drop a (take b k))
@@ -267,8 +267,8 @@ slice-same l k a b z h = ext_get_or 0 (slice a b l) (slice a b k) long (λ i lt.
     at l i lt = get_or-drop a (take b l) i 0 ∙ get_or-take b l (a + i) 0 lt
 
 module _ (left upto known : List ℕ) (n : ℕ) (s : Spanned left upto known n) (g : ℕ) (lt : g < n) where
-  pub span-end : get_or upto g 0 ≤ blocks
-  span-end = omega (arith, s.to g lt, s.few)
+  pub span_end : get_or upto g 0 ≤ blocks
+  span_end = omega (arith, s.to g lt, s.few)
 
   module _ (seen left' : List ℕ) (r end : ℕ) (is : end ≡ get_or upto g 0) (looked : Looked seen (width * g) end left left' r) where
     k : Looked seen (width * g) (get_or upto g 0) left left' r
@@ -276,48 +276,48 @@ module _ (left upto known : List ℕ) (n : ℕ) (s : Spanned left upto known n) 
 
     -- the places of another span are not looked at
     elsewhere : (h : ℕ) → (h ≡ g → ⊥) → h < n → (x : ℕ) → width * h ≤ x → x < get_or upto h 0 → get_or left' x 0 ≡ get_or left x 0
-    elsewhere h ne lh x a b = k.other x (split-lt h g (λ c. inl (omega (arith, b, c, s.to h lh))) (λ c. inr (omega (arith, a, c, ne, s.to g lt))))
+    elsewhere h ne lh x a b = k.other x (split_lt h g (λ c. inl (omega (arith, b, c, s.to h lh))) (λ c. inr (omega (arith, a, c, ne, s.to g lt))))
 
     ends_same : get_or (set upto g r) g 0 ≡ r
-    ends_same = get_or-set_same upto g r 0 (omega (arith, lt, s.few, s.upto-sized))
+    ends_same = get_or-set_same upto g r 0 (omega (arith, lt, s.few, s.upto_sized))
 
-    ends-other : (h : ℕ) → (h ≡ g → ⊥) → get_or (set upto g r) h 0 ≡ get_or upto h 0
-    ends-other h ne = get_or-set_other upto g h r 0 ne
+    ends_other : (h : ℕ) → (h ≡ g → ⊥) → get_or (set upto g r) h 0 ≡ get_or upto h 0
+    ends_other h ne = get_or-set_other upto g h r 0 ne
 
-    pub spanned-looked : (v : ℕ) → Spanned left' (set upto g r) (set known g v) n
-    spanned-looked v = record {
-      left-sized = k.sized;
-      upto-sized = length-set upto g r ∙ s.upto-sized;
-      known-sized = length-set known g v ∙ s.known-sized;
+    pub spanned_looked : (v : ℕ) → Spanned left' (set upto g r) (set known g v) n
+    spanned_looked v = record {
+      left_sized = k.sized;
+      upto_sized = length-set upto g r ∙ s.upto_sized;
+      known_sized = length-set known g v ∙ s.known_sized;
       few = s.few;
-      from = λ h lh. split-same h g (λ e. rw (e, ends_same) k.low) (λ ne. rw (ends-other h ne) (s.from h lh));
-      to = λ h lh. split-same h g (λ e. rw (e, ends_same) (omega (arith, k.high, s.to g lt))) (λ ne. rw (ends-other h ne) (s.to h lh));
-      small = λ h lh. split-same h g (λ e. rw (e, ends_same) k.small) (λ ne. rw (ends-other h ne) (λ x a b. rw (elsewhere h ne lh x a b) (s.small h lh x a b)));
+      from = λ h lh. split_same h g (λ e. rw (e, ends_same) k.low) (λ ne. rw (ends_other h ne) (s.from h lh));
+      to = λ h lh. split_same h g (λ e. rw (e, ends_same) (omega (arith, k.high, s.to g lt))) (λ ne. rw (ends_other h ne) (s.to h lh));
+      small = λ h lh. split_same h g (λ e. rw (e, ends_same) k.small) (λ ne. rw (ends_other h ne) (λ x a b. rw (elsewhere h ne lh x a b) (s.small h lh x a b)));
     }
 
-    pub left-looked : (plain : List ℕ) → Left seen left upto n plain → Left seen left' (set upto g r) n plain
-    unfolding leftIn
-    left-looked plain l = record {
+    pub left_looked : (plain : List ℕ) → Left seen left upto n plain → Left seen left' (set upto g r) n plain
+    unfolding left_in
+    left_looked plain l = record {
       short = l.short;
-      same = λ h lh. split-same h g
-          (λ e. rw (e, ends_same) (ap (keep (free seen)) k.kept ∙ keep-keep (free seen) (free seen) (slice (width * g) (get_or upto g 0) left) (λ m f. f) ∙ l.same g lt))
-          (λ ne. rw (ends-other h ne) (ap (keep (free seen)) (slice-same left' left (width * h) (get_or upto h 0) (k.sized ∙ sym s.left-sized) (elsewhere h ne lh)) ∙ l.same h lh));
+      same = λ h lh. split_same h g
+          (λ e. rw (e, ends_same) (ap (keep (free seen)) k.kept ∙ keep_keep (free seen) (free seen) (slice (width * g) (get_or upto g 0) left) (λ m f. f) ∙ l.same g lt))
+          (λ ne. rw (ends_other h ne) (ap (keep (free seen)) (slice_same left' left (width * h) (get_or upto h 0) (k.sized ∙ sym s.left_sized) (elsewhere h ne lh)) ∙ l.same h lh));
     }
 
   module _ (marks weight seen reached : List ℕ) (low : ℕ) (plain : List ℕ) (v : ℕ) where
-    pub best-looked : (end : ℕ) → end ≡ get_or upto g 0 → Left seen left upto n plain → start_in v ≡ chosen (startableBy weight seen low) (seedBy marks weight reached) Nothing (slice (width * g) end left) → start_in v ≡ bestIn marks weight seen reached low plain g
-    unfolding leftIn
-    best-looked end is l e = e ∙ ap (λ (x : ℕ). chosen (startableBy weight seen low) (seedBy marks weight reached) Nothing (slice (width * g) x left)) is ∙ chosen-same (startableBy weight seen low) (free seen) (seedBy marks weight reached) (unfree weight seen low) (slice (width * g) (get_or upto g 0) left) (spanAt plain g) (l.same g lt)
+    pub best_looked : (end : ℕ) → end ≡ get_or upto g 0 → Left seen left upto n plain → start_in v ≡ chosen (startable_by weight seen low) (seed_by marks weight reached) Nothing (slice (width * g) end left) → start_in v ≡ best_in marks weight seen reached low plain g
+    unfolding left_in
+    best_looked end is l e = e ∙ ap (λ (x : ℕ). chosen (startable_by weight seen low) (seed_by marks weight reached) Nothing (slice (width * g) x left)) is ∙ chosen_same (startable_by weight seen low) (free seen) (seed_by marks weight reached) (unfree weight seen low) (slice (width * g) (get_or upto g 0) left) (span_at plain g) (l.same g lt)
 
-    pub knows-looked : Knows marks weight seen reached low known n plain → start_in v ≡ bestIn marks weight seen reached low plain g → Knows marks weight seen reached low (set known g v) n plain
-    knows-looked k e h lh q = split-same h g
-        (λ f. rw (f, get_or-set_same known g v 0 (omega (arith, lt, s.few, s.known-sized))) e)
+    pub knows_looked : Knows marks weight seen reached low known n plain → start_in v ≡ best_in marks weight seen reached low plain g → Knows marks weight seen reached low (set known g v) n plain
+    knows_looked k e h lh q = split_same h g
+        (λ f. rw (f, get_or-set_same known g v 0 (omega (arith, lt, s.few, s.known_sized))) e)
         (λ f. let o = get_or-set_other known g h v 0 f in rw o (k h lh (λ u. q (o ∙ u))))
 
 -- ---- span by span
-pub spans-more : (plain : List ℕ) (g : ℕ) → take (width * g) plain ++ spanAt plain g ≡ take (width * (g + 1)) plain
-unfolding spanAt
-spans-more plain g =
+pub spans_more : (plain : List ℕ) (g : ℕ) → take (width * g) plain ++ span_at plain g ≡ take (width * (g + 1)) plain
+unfolding span_at
+spans_more plain g =
     let e : width * g + width ≡ width * (g + 1) = omega arith in
     ap (λ (l : List ℕ). l ++ drop (width * g) (take (width * g + width) plain)) (sym (take-take (width * g) (width * g + width) plain (omega arith)))
     ∙ take-append-drop (width * g) (take (width * g + width) plain) ∙ ap (λ (m : ℕ). take m plain) e
@@ -326,28 +326,28 @@ spans-more plain g =
 abbrev pub Searching : List ℕ → List ℕ → List ℕ → List ℕ → ℕ → ℕ → List ℕ → List ℕ → List ℕ → List ℕ → List ℕ → List ℕ → Start → ℕ → Type 0
 Searching marks weight seen reached low n left upto known left' upto' known' best g =
     (plain : List ℕ) → Left seen left upto n plain → Knows marks weight seen reached low known n plain
-    → Left seen left' upto' n plain × Knows marks weight seen reached low known' n plain × (best ≡ chosen (startableBy weight seen low) (seedBy marks weight reached) Nothing (take (width * g) plain))
+    → Left seen left' upto' n plain × Knows marks weight seen reached low known' n plain × (best ≡ chosen (startable_by weight seen low) (seed_by marks weight reached) Nothing (take (width * g) plain))
 
 module _ (marks weight seen reached : List ℕ) (low n : ℕ) (left upto known : List ℕ) where
-  pub searching-first : Searching marks weight seen reached low n left upto known left upto known Nothing 0
+  pub searching_first : Searching marks weight seen reached low n left upto known left upto known Nothing 0
   unfolding chosen
-  searching-first plain l k = (l, k, refl)
+  searching_first plain l k = (l, k, refl)
 
   module _ (left' upto' known' : List ℕ) (best : Start) (g : ℕ) (v : Searching marks weight seen reached low n left upto known left' upto' known' best g) where
-    pub searching-more : (left'' upto'' known'' : List ℕ) (r : ℕ) → Told marks weight seen reached low n left' upto' known' left'' upto'' known'' g r
-        → (best' : Start) → best' ≡ met (seedBy marks weight reached) best (start_in r) → Searching marks weight seen reached low n left upto known left'' upto'' known'' best' (g + 1)
-    searching-more left'' upto'' known'' r t best' e plain l k =
+    pub searching_more : (left'' upto'' known'' : List ℕ) (r : ℕ) → Told marks weight seen reached low n left' upto' known' left'' upto'' known'' g r
+        → (best' : Start) → best' ≡ met (seed_by marks weight reached) best (start_in r) → Searching marks weight seen reached low n left upto known left'' upto'' known'' best' (g + 1)
+    searching_more left'' upto'' known'' r t best' e plain l k =
         let w = v plain l k in
         let u = t plain w.0 w.1 in
-        let p = startableBy weight seen low in
-        let seed = seedBy marks weight reached in (
+        let p = startable_by weight seen low in
+        let seed = seed_by marks weight reached in (
           u.0,
           u.1,
           e ∙ ap (λ (s : Start). met seed s (start_in r)) w.2 ∙ ap (met seed (chosen p seed Nothing (take (width * g) plain))) u.2
-              ∙ sym (chosen-two p seed (take (width * g) plain) (spanAt plain g)) ∙ ap (chosen p seed Nothing) (spans-more plain g),
+              ∙ sym (chosen_two p seed (take (width * g) plain) (span_at plain g)) ∙ ap (chosen p seed Nothing) (spans_more plain g),
         )
 
-    pub searching-last : n ≤ g → Searched marks weight seen reached low n left upto known left' upto' known' best
-    searching-last h plain l k =
+    pub searching_last : n ≤ g → Searched marks weight seen reached low n left upto known left' upto' known' best
+    searching_last h plain l k =
         let w = v plain l k in
-        (w.0, w.1, chosen-starts marks weight seen reached low plain best (sym (w.2 ∙ ap (chosen (startableBy weight seen low) (seedBy marks weight reached) Nothing) (take_all (width * g) plain (omega (arith, h, l.short))))))
+        (w.0, w.1, chosen_starts marks weight seen reached low plain best (sym (w.2 ∙ ap (chosen (startable_by weight seen low) (seed_by marks weight reached) Nothing) (take_all (width * g) plain (omega (arith, h, l.short))))))

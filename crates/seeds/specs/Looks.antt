@@ -7,7 +7,7 @@ use Rattle.marks.specs.Sets.{member}
 use Rattle.seeds.specs.declared.Start.{Start}
 use Rattle.seeds.specs.declared.Start.TheVariants.{At, Nothing}
 use Rattle.seeds.specs.Spans.{width, spans, Known}
-use Rattle.seeds.specs.Starts.{seedBy, startableBy, chosen, StartsAt}
+use Rattle.seeds.specs.Starts.{seed_by, startable_by, chosen, StartsAt}
 
 -- block m is not laid
 unfoldable pub free : List ℕ → ℕ → Bool
@@ -32,11 +32,11 @@ pub record Looked (seen : List ℕ) (from end : ℕ) (left left' : List ℕ) (r 
   pub small : Small left' from r
 
 -- span g of an order, and what is left of it
-unfoldable pub spanAt : List ℕ → ℕ → List ℕ
-spanAt plain g = slice (width * g) (width * g + width) plain
+unfoldable pub span_at : List ℕ → ℕ → List ℕ
+span_at plain g = slice (width * g) (width * g + width) plain
 
-unfoldable pub leftIn : List ℕ → List ℕ → ℕ → List ℕ
-leftIn left upto g = slice (width * g) (get_or upto g 0) left
+unfoldable pub left_in : List ℕ → List ℕ → ℕ → List ℕ
+left_in left upto g = slice (width * g) (get_or upto g 0) left
 
 -- the start that is known of a span
 unfoldable pub start_in : ℕ → Start
@@ -44,9 +44,9 @@ start_in k = cond (ltb k blocks) (At k) Nothing
 
 -- the tables have room for n spans, and what is left of each stands within it
 pub record Spanned (left upto known : List ℕ) (n : ℕ) : Type 0 where
-  pub left-sized : length left ≡ blocks
-  pub upto-sized : length upto ≡ spans
-  pub known-sized : length known ≡ spans
+  pub left_sized : length left ≡ blocks
+  pub upto_sized : length upto ≡ spans
+  pub known_sized : length known ≡ spans
   pub few : n ≤ spans
   pub from : (g : ℕ) → g < n → width * g ≤ get_or upto g 0
   pub to : (g : ℕ) → g < n → get_or upto g 0 ≤ width * g + width
@@ -55,22 +55,22 @@ pub record Spanned (left upto known : List ℕ) (n : ℕ) : Type 0 where
 -- of an order of n spans all blocks that are not laid are left, each span's in their order
 pub record Left (seen left upto : List ℕ) (n : ℕ) (plain : List ℕ) : Type 0 where
   pub short : length plain ≤ width * n
-  pub same : (g : ℕ) → g < n → keep (free seen) (leftIn left upto g) ≡ keep (free seen) (spanAt plain g)
+  pub same : (g : ℕ) → g < n → keep (free seen) (left_in left upto g) ≡ keep (free seen) (span_at plain g)
 
 -- the best start in span g of an order
-abbrev pub bestIn : List ℕ → List ℕ → List ℕ → List ℕ → ℕ → List ℕ → ℕ → Start
-bestIn marks weight seen reached low plain g = chosen (startableBy weight seen low) (seedBy marks weight reached) Nothing (spanAt plain g)
+abbrev pub best_in : List ℕ → List ℕ → List ℕ → List ℕ → ℕ → List ℕ → ℕ → Start
+best_in marks weight seen reached low plain g = chosen (startable_by weight seen low) (seed_by marks weight reached) Nothing (span_at plain g)
 
 -- what is known of the spans of an order is its best start in each
 abbrev pub Knows : List ℕ → List ℕ → List ℕ → List ℕ → ℕ → List ℕ → ℕ → List ℕ → Type 0
-Knows marks weight seen reached low known n plain = (g : ℕ) → g < n → Known known g → start_in (get_or known g 0) ≡ bestIn marks weight seen reached low plain g
+Knows marks weight seen reached low known n plain = (g : ℕ) → g < n → Known known g → start_in (get_or known g 0) ≡ best_in marks weight seen reached low plain g
 
 -- ---- what is found, for every order of which this is left and known
 -- of span g
 abbrev pub Told : List ℕ → List ℕ → List ℕ → List ℕ → ℕ → ℕ → List ℕ → List ℕ → List ℕ → List ℕ → List ℕ → List ℕ → ℕ → ℕ → Type 0
 Told marks weight seen reached low n left upto known left' upto' known' g r =
     (plain : List ℕ) → Left seen left upto n plain → Knows marks weight seen reached low known n plain
-    → Left seen left' upto' n plain × Knows marks weight seen reached low known' n plain × (start_in r ≡ bestIn marks weight seen reached low plain g)
+    → Left seen left' upto' n plain × Knows marks weight seen reached low known' n plain × (start_in r ≡ best_in marks weight seen reached low plain g)
 
 -- of all
 abbrev pub Searched : List ℕ → List ℕ → List ℕ → List ℕ → ℕ → ℕ → List ℕ → List ℕ → List ℕ → List ℕ → List ℕ → List ℕ → Start → Type 0

@@ -25,9 +25,9 @@ count_of len = (len + 15) / width
 
 -- the first i of len places are cut: each block there has its span, and each span up to there its end
 pub record Cut (order : List ℕ) (len i : ℕ) (span upto : List ℕ) : Type 0 where
-  pub span-sized : length span ≡ blocks
-  pub upto-sized : length upto ≡ spans
-  pub span-is : (j : ℕ) → j < i → get_or span (get_or order j 0) 0 ≡ j / width
+  pub span_sized : length span ≡ blocks
+  pub upto_sized : length upto ≡ spans
+  pub span_is : (j : ℕ) → j < i → get_or span (get_or order j 0) 0 ≡ j / width
   pub upto_is : (g : ℕ) → width * g < i → get_or upto g 0 ≡ min i (width * g + width)
 
 -- ---- as blocks are laid

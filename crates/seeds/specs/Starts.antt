@@ -1,8 +1,8 @@
 -- The start rule by the tables, and what is found in every graph that has them.
 use Rattle.std.specs.Prelude.{ℕ, ◌≡◌, Bool, not, cond, ◌&&◌, List, [], ◌∷◌, leb, get_or}
 use Rattle.std.proofs.Math.Option.{Option, none, some}
-use Rattle.rules.specs.Graph.{isCold}
-use Rattle.rules.specs.Traces.{Seed, below, nextSeed}
+use Rattle.rules.specs.Graph.{is_cold}
+use Rattle.rules.specs.Traces.{Seed, below, next_seed}
 use Rattle.rules.proofs.Membership.{In}
 use Rattle.records.specs.declared.Graph.{Graph}
 use Rattle.records.specs.Tables.{tabled}
@@ -13,13 +13,13 @@ use Rattle.seeds.specs.declared.Start.{Start}
 use Rattle.seeds.specs.declared.Start.TheVariants.{At, Nothing}
 
 -- block n as a start
-unfoldable pub seedBy : List ℕ → List ℕ → List ℕ → ℕ → Seed
-seedBy marks weight reached n =
-    record { block = n; warm = cond (isCold (get_or marks n 0)) 0 1; reached = get_or reached n 0; weight = get_or weight n 0 }
+unfoldable pub seed_by : List ℕ → List ℕ → List ℕ → ℕ → Seed
+seed_by marks weight reached n =
+    record { block = n; warm = cond (is_cold (get_or marks n 0)) 0 1; reached = get_or reached n 0; weight = get_or weight n 0 }
 
 -- block n is unlaid and weighs at least `low`
-unfoldable pub startableBy : List ℕ → List ℕ → ℕ → ℕ → Bool
-startableBy weight seen low n = not (member seen n) && leb low (get_or weight n 0)
+unfoldable pub startable_by : List ℕ → List ℕ → ℕ → ℕ → Bool
+startable_by weight seen low n = not (member seen n) && leb low (get_or weight n 0)
 
 -- the better of the best start so far and block n, the former on ties
 unfoldable pub ahead : (ℕ → Seed) → Start → ℕ → Start
@@ -52,4 +52,4 @@ block_of (some s) = some s.block
 abbrev pub StartsAt : List ℕ → List ℕ → List ℕ → List ℕ → List ℕ → ℕ → Start → Type 0
 StartsAt marks weight order seen reached low r =
     (t : Graph) (first count to heft : List ℕ) → Flows t marks weight first count to heft → ((n : ℕ) → In n order → Of t n) →
-    (laid : List ℕ) → Marks seen laid → Reached t laid reached → start_of r ≡ block_of (nextSeed (tabled t) order laid low)
+    (laid : List ℕ) → Marks seen laid → Reached t laid reached → start_of r ≡ block_of (next_seed (tabled t) order laid low)

@@ -3,6 +3,8 @@
 //
 // The scan looks at no more than it must. The plain order is cut into spans. What was found in a span is known until a
 // block of it is laid or entered by a heavier arm; and a look at a span leaves the laid blocks out of the next one.
+#![tactic(auto)]
+
 pub mod spans;
 
 ghost use Rattle.std.specs.Prelude.{◌≡◌, cond, ◌≤◌, ◌<◌, max, leb, length, get_or, set};
@@ -13,7 +15,7 @@ ghost use Rattle.marks.specs.Sets.{room};
 ghost use Rattle.seeds.specs.Reached.{Notes, Noted};
 ghost use Rattle.seeds.specs.declared.Start.TheVariants.{Nothing};
 ghost use Rattle.seeds.specs.Spans.{spans, Forgets, Forgotten};
-ghost use Rattle.seeds.specs.Starts.{seedBy, startableBy, ahead, met, chosen};
+ghost use Rattle.seeds.specs.Starts.{seed_by, startable_by, ahead, met, chosen};
 ghost use Rattle.seeds.specs.Looks.{Low, Small, Looked, start_in, Spanned, Told, Searched};
 
 use limits::{ARMS, BLOCKS};
@@ -92,7 +94,7 @@ fn below<'a>(
     y: u16,
 ) -> bool
     requires { (length marks.now ≡ blocks) × (length weight.now ≡ blocks) × (length reached.now ≡ blocks) }
-    ensures { result ≡ below (seedBy marks.now weight.now reached.now x) (seedBy marks.now weight.now reached.now y) }
+    ensures { result ≡ below (seed_by marks.now weight.now reached.now x) (seed_by marks.now weight.now reached.now y) }
 {
     let cold = cold::is_cold(lists::byte_of(marks, x));
     let other = cold::is_cold(lists::byte_of(marks, y));
@@ -116,7 +118,7 @@ fn better<'a>(
     n: u16,
 ) -> Start
     requires { (length marks.now ≡ blocks) × (length weight.now ≡ blocks) × (length reached.now ≡ blocks) }
-    ensures { result ≡ ahead (seedBy marks.now weight.now reached.now) best n }
+    ensures { result ≡ ahead (seed_by marks.now weight.now reached.now) best n }
 {
     let Start::At(x) = best else {
         return Start::At(n);
@@ -137,7 +139,7 @@ fn tried<'a>(
     n: u16,
 ) -> Start
     requires { (length marks.now ≡ blocks) × (length weight.now ≡ blocks) × (length reached.now ≡ blocks) }
-    ensures { result ≡ cond (leb low (get_or weight.now n 0)) (ahead (seedBy marks.now weight.now reached.now) best n) best }
+    ensures { result ≡ cond (leb low (get_or weight.now n 0)) (ahead (seed_by marks.now weight.now reached.now) best n) best }
 {
     if low <= lists::weight_of(weight, n) {
         return better(marks, weight, reached, best, n);
@@ -173,7 +175,7 @@ fn look<'a>(
     requires marks_len { (length marks.now ≡ blocks) × (length weight.now ≡ blocks) × (length reached.now ≡ blocks) × (length seen.now ≡ room) }
     requires left_len { (length left.old ≡ blocks) × (from ≤ end) × (end ≤ blocks) × Small left.old from end }
     ensures looked { Looked seen.now from end left.old left.new result.end }
-    ensures known_value { start_in result.known ≡ chosen (startableBy weight.now seen.now low) (seedBy marks.now weight.now reached.now) Nothing (slice from end left.old) }
+    ensures known_value { start_in result.known ≡ chosen (startable_by weight.now seen.now low) (seed_by marks.now weight.now reached.now) Nothing (slice from end left.old) }
 {
     let mut best = Start::Nothing;
     let mut kept = from;
@@ -232,7 +234,7 @@ fn further<'a>(
     k: u16,
 ) -> Start
     requires { (length marks.now ≡ blocks) × (length weight.now ≡ blocks) × (length reached.now ≡ blocks) }
-    ensures { result ≡ met (seedBy marks.now weight.now reached.now) best (start_in k) }
+    ensures { result ≡ met (seed_by marks.now weight.now reached.now) best (start_in k) }
 {
     if BLOCKS <= lists::wide(k) {
         return best;

@@ -1,6 +1,8 @@
 // The stack of a walk: blocks, each with how many of its arms have been started. Push and pop take it and hand it back.
 // Its room is lent to it: with 256 entries inside, every push and every pop copied all of them; so it is two pointers and
 // a number.
+#![tactic(auto)]
+
 ghost use Rattle.std.specs.Prelude.{◌≡◌, ◌∷◌, ◌+◌, ◌<◌, ◌≤◌, get_or, set};
 ghost use Rattle.stack.specs.Frames.{room, frame, Roomy, stack_of, pushed, popped, Put, Took};
 

@@ -14,10 +14,10 @@ use Rattle.seeds.specs.Reached.{Reached}
 
 -- the blocks of s are laid, at the places before `start`; block `from` is not
 pub record Ready (t : Graph) (s : Traced) (entry from start : ℕ) (seen starts reached : List ℕ) : Type 0 where
-  pub laid-is : Marks seen s.laid
-  pub starts-are : Marks starts s.starts
-  pub reached-is : Reached t s.laid reached
-  pub entry-is : optional entry ≡ graph.entry (tabled t)
+  pub laid_is : Marks seen s.laid
+  pub starts_are : Marks starts s.starts
+  pub reached_is : Reached t s.laid reached
+  pub entry_is : optional entry ≡ graph.entry (tabled t)
   pub once : Once s.laid
   pub own : (n : ℕ) → In n s.laid → Of t n
   pub long : length s.laid ≡ start
@@ -25,16 +25,16 @@ pub record Ready (t : Graph) (s : Traced) (entry from start : ℕ) (seen starts 
   pub new : T (not (mem from s.laid))
 
 -- the trace from that block
-abbrev pub traceOf : Graph → Traced → ℕ → ℕ → ℕ → List ℕ
-traceOf t s likely low from = extend (tabled t) likely low (length (tabled t)) s.laid from
+abbrev pub trace_of : Graph → Traced → ℕ → ℕ → ℕ → List ℕ
+trace_of t s likely low from = extend (tabled t) likely low (length (tabled t)) s.laid from
 
 -- it is laid too, turned, up to place e
 pub record Turned (t : Graph) (s : Traced) (likely low from start : ℕ) (was seen reached order : List ℕ) (e : ℕ) : Type 0 where
-  pub laid-is : Marks seen (traceOf t s likely low from ++ s.laid)
-  pub reached-is : Reached t (traceOf t s likely low from ++ s.laid) reached
-  pub end : e ≡ start + length (traceOf t s likely low from)
+  pub laid_is : Marks seen (trace_of t s likely low from ++ s.laid)
+  pub reached_is : Reached t (trace_of t s likely low from ++ s.laid) reached
+  pub end : e ≡ start + length (trace_of t s likely low from)
   pub few : e ≤ numbers
-  pub order_is : order ≡ take start was ++ (rotate (tabled t) (traceOf t s likely low from ++ s.laid) s.starts (traceOf t s likely low from) ++ drop e was)
+  pub order_is : order ≡ take start was ++ (rotate (tabled t) (trace_of t s likely low from ++ s.laid) s.starts (trace_of t s likely low from) ++ drop e was)
 
 -- some graph has these tables, and a trace may begin there
 pub record Begins (marks weight first count to heft : List ℕ) (entry from start : ℕ) (seen starts reached : List ℕ) : Type 0 where

@@ -3,13 +3,15 @@
 // The traces stand in `order` as they are found: trace k ends before place ends[k], and the next begins there. Beside
 // them three tables by block number go along: what is laid, what starts a trace, and the heaviest arm in from what is
 // laid.
+#![tactic(auto)]
+
 ghost use Rattle.std.specs.Prelude.{◌≡◌, ℕ, ◌≤◌, ◌<◌, length, get_or, take};
 ghost use Rattle.limits.specs.Limits.{blocks};
 ghost use Rattle.rules.specs.Weights.{scale};
 ghost use Rattle.marks.specs.Sets.{room};
 ghost use Rattle.traces.specs.Growing.{Begins, Traces};
 ghost use Rattle.traces.specs.Held.{Roomy, Adds, Added, Fills, Filled};
-ghost use Rattle.traces.specs.Rounds.{roundAt, Opens, Opened, Turns, Rounded, enteredBy, Finds, Found, Lent, Joined};
+ghost use Rattle.traces.specs.Rounds.{round_at, Opens, Opened, Turns, Rounded, entered_by, Finds, Found, Lent, Joined};
 
 use flow::Choice;
 use limits::{ARMS, BLOCKS};
@@ -145,7 +147,7 @@ fn fill<'a>(
 
 // "Rounds (4000,5000), (2000,2000), (1000,500), (0,0)", counted from 0.
 fn nth_round(i: usize) -> Round
-    ensures { (result.likely ≡ (roundAt i).likely) × (result.often ≡ (roundAt i).often) }
+    ensures { (result.likely ≡ (round_at i).likely) × (result.often ≡ (round_at i).often) }
 {
     if i == 0 {
         return Round {
@@ -248,7 +250,7 @@ fn rounds<'a>(
 // "entry weight (ONCE if no entry)"
 fn entered_weight(weight: &[u64; BLOCKS], entry: usize) -> u64
     requires { length weight.now ≡ blocks }
-    ensures { result ≡ enteredBy weight.now entry }
+    ensures { result ≡ entered_by weight.now entry }
 {
     if BLOCKS <= entry {
         return ONCE;

@@ -13,31 +13,31 @@ use Rattle.rules.proofs.Membership.{keep_append}
 use Rattle.walks.specs.Walking.{backwards}
 
 -- ---- the first n, read backwards
-pub backwards-length : (l : List ℕ) (n : ℕ) → length (backwards l n) ≡ n
+pub backwards_length : (l : List ℕ) (n : ℕ) → length (backwards l n) ≡ n
 unfolding backwards
-backwards-length l zero = refl
-backwards-length l (suc n) = ap suc (backwards-length l n)
+backwards_length l zero = refl
+backwards_length l (suc n) = ap suc (backwards_length l n)
 
-backwards-get : (l : List ℕ) (n k : ℕ) → k < n → get_or (backwards l n) k 0 ≡ get_or l (n - 1 - k) 0
+backwards_get : (l : List ℕ) (n k : ℕ) → k < n → get_or (backwards l n) k 0 ≡ get_or l (n - 1 - k) 0
 unfolding backwards
-backwards-get l zero k h = absurd (omega (arith, h))
-backwards-get l (suc n) zero h = let e : n ≡ suc n - 1 - 0 = omega arith in ap (λ (q : ℕ). get_or l q 0) e
-backwards-get l (suc n) (suc k) h =
+backwards_get l zero k h = absurd (omega (arith, h))
+backwards_get l (suc n) zero h = let e : n ≡ suc n - 1 - 0 = omega arith in ap (λ (q : ℕ). get_or l q 0) e
+backwards_get l (suc n) (suc k) h =
     let e : n - 1 - k ≡ suc n - 1 - suc k = omega arith in
-    backwards-get l n k (omega (arith, h)) ∙ ap (λ (q : ℕ). get_or l q 0) e
+    backwards_get l n k (omega (arith, h)) ∙ ap (λ (q : ℕ). get_or l q 0) e
 
 -- one more is copied
-pub reversed-more : (l block : List ℕ) (n i : ℕ) → i < n → i < length block → take i block ≡ take i (backwards l n)
+pub reversed_more : (l block : List ℕ) (n i : ℕ) → i < n → i < length block → take i block ≡ take i (backwards l n)
     → take (i + 1) (set block i (get_or l (n - 1 - i) 0)) ≡ take (i + 1) (backwards l n)
-reversed-more l block n i h b e =
+reversed_more l block n i h b e =
     rw add-one
     (take-suc-set block i (get_or l (n - 1 - i) 0) b
     ∙ ap (λ (s : List ℕ). s ++ (get_or l (n - 1 - i) 0 ∷ [])) e
-    ∙ ap (λ (x : ℕ). take i (backwards l n) ++ (x ∷ [])) (sym (backwards-get l n i h))
-    ∙ sym (take-suc (backwards l n) i 0 (omega (arith, h, backwards-length l n))))
+    ∙ ap (λ (x : ℕ). take i (backwards l n) ++ (x ∷ [])) (sym (backwards_get l n i h))
+    ∙ sym (take-suc (backwards l n) i 0 (omega (arith, h, backwards_length l n))))
 
-pub reversed-all : (l : List ℕ) (n : ℕ) → take n (backwards l n) ≡ backwards l n
-reversed-all l n = take_all n (backwards l n) (omega (arith, backwards-length l n))
+pub reversed_all : (l : List ℕ) (n : ℕ) → take n (backwards l n) ≡ backwards l n
+reversed_all l n = take_all n (backwards l n) (omega (arith, backwards_length l n))
 
 -- ---- those of a list that pass a test
 module _ (p : ℕ → Bool) where
@@ -45,28 +45,28 @@ module _ (p : ℕ → Bool) where
   unfolding keep
   keep_one x b e = ap (λ (c : Bool). cond c (x ∷ []) []) e
 
-  keep-next : (l : List ℕ) (i : ℕ) (b : Bool) → i < length l → p (get_or l i 0) ≡ b → keep p (take (i + 1) l) ≡ keep p (take i l) ++ cond b (get_or l i 0 ∷ []) []
-  keep-next l i b h e =
+  keep_next : (l : List ℕ) (i : ℕ) (b : Bool) → i < length l → p (get_or l i 0) ≡ b → keep p (take (i + 1) l) ≡ keep p (take i l) ++ cond b (get_or l i 0 ∷ []) []
+  keep_next l i b h e =
       rw add-one
       (ap (keep p) (take-suc l i 0 h) ∙ keep_append p (take i l) (get_or l i 0 ∷ []) ∙ ap (λ (s : List ℕ). keep p (take i l) ++ s) (keep_one (get_or l i 0) b e))
 
-  pub keep-yes : (l : List ℕ) (i : ℕ) → i < length l → p (get_or l i 0) ≡ true → keep p (take (i + 1) l) ≡ keep p (take i l) ++ (get_or l i 0 ∷ [])
-  keep-yes l i h e = keep-next l i true h e
+  pub keep_yes : (l : List ℕ) (i : ℕ) → i < length l → p (get_or l i 0) ≡ true → keep p (take (i + 1) l) ≡ keep p (take i l) ++ (get_or l i 0 ∷ [])
+  keep_yes l i h e = keep_next l i true h e
 
-  pub keep-no : (l : List ℕ) (i : ℕ) → i < length l → p (get_or l i 0) ≡ false → keep p (take (i + 1) l) ≡ keep p (take i l)
-  keep-no l i h e = keep-next l i false h e ∙ append-nil (keep p (take i l))
+  pub keep_no : (l : List ℕ) (i : ℕ) → i < length l → p (get_or l i 0) ≡ false → keep p (take (i + 1) l) ≡ keep p (take i l)
+  keep_no l i h e = keep_next l i false h e ∙ append-nil (keep p (take i l))
 
   -- more of the list has no fewer
-  pub keep-grows : (l : List ℕ) (i n : ℕ) → i ≤ n → length (keep p (take i l)) ≤ length (keep p (take n l))
+  pub keep_grows : (l : List ℕ) (i n : ℕ) → i ≤ n → length (keep p (take i l)) ≤ length (keep p (take n l))
   unfolding keep
-  keep-grows [] i n h = rw (take_none i, take_none n) (omega arith)
+  keep_grows [] i n h = rw (take_none i, take_none n) (omega arith)
     where
       take_none : (k : ℕ) → ◌≡◌ {A = List ℕ} (take k []) []
       take_none zero = refl
       take_none (suc k) = refl
-  keep-grows (x ∷ l) zero n h = omega arith
-  keep-grows (x ∷ l) (suc i) zero h = absurd (omega (arith, h))
-  keep-grows (x ∷ l) (suc i) (suc n) h = go (keep-grows l i n (omega (arith, h))) (p x)
+  keep_grows (x ∷ l) zero n h = omega arith
+  keep_grows (x ∷ l) (suc i) zero h = absurd (omega (arith, h))
+  keep_grows (x ∷ l) (suc i) (suc n) h = go (keep_grows l i n (omega (arith, h))) (p x)
     where
       go : length (keep p (take i l)) ≤ length (keep p (take n l)) → (b : Bool) → length (cond b (x ∷ keep p (take i l)) (keep p (take i l))) ≤ length (cond b (x ∷ keep p (take n l)) (keep p (take n l)))
       go ih true = omega (arith, ih)
@@ -78,10 +78,10 @@ unfolding keep
 keep_same p q [] h = refl
 keep_same p q (x ∷ l) h = rw (h x, keep_same p q l h)
 
-pub keep-every : (p : ℕ → Bool) (l : List ℕ) → ((m : ℕ) → p m ≡ true) → keep p l ≡ l
+pub keep_every : (p : ℕ → Bool) (l : List ℕ) → ((m : ℕ) → p m ≡ true) → keep p l ≡ l
 unfolding keep
-keep-every p [] h = refl
-keep-every p (x ∷ l) h = rw (h x, keep-every p l h)
+keep_every p [] h = refl
+keep_every p (x ∷ l) h = rw (h x, keep_every p l h)
 
 -- ---- what is put behind an order
 -- those of the first i of l that pass the test stand behind the first len₀ of block₀
@@ -91,27 +91,27 @@ pub record Behind (p : ℕ → Bool) (l block₀ : List ℕ) (len₀ : ℕ) (blo
   pub is : take len block ≡ take len₀ block₀ ++ keep p (take i l)
 
 module _ (p : ℕ → Bool) (l block₀ : List ℕ) (len₀ : ℕ) where
-  pub behind-start : length block₀ ≡ blocks → Behind p l block₀ len₀ block₀ len₀ 0
+  pub behind_start : length block₀ ≡ blocks → Behind p l block₀ len₀ block₀ len₀ 0
   unfolding keep
-  behind-start h = record { sized = h; long = omega arith; is = sym (append-nil (take len₀ block₀)) }
+  behind_start h = record { sized = h; long = omega arith; is = sym (append-nil (take len₀ block₀)) }
 
   module _ (block : List ℕ) (len i : ℕ) (b : Behind p l block₀ len₀ block len i) (h : i < length l) where
-    pub behind-no : p (get_or l i 0) ≡ false → Behind p l block₀ len₀ block len (i + 1)
-    behind-no e = record { sized = b.sized; long = rw (keep-no p l i h e) b.long; is = rw (keep-no p l i h e) b.is }
+    pub behind_no : p (get_or l i 0) ≡ false → Behind p l block₀ len₀ block len (i + 1)
+    behind_no e = record { sized = b.sized; long = rw (keep_no p l i h e) b.long; is = rw (keep_no p l i h e) b.is }
 
     -- there is room for one more
-    pub behind-room : (n : ℕ) → i < n → len₀ + length (keep p (take n l)) ≤ blocks → p (get_or l i 0) ≡ true → len < blocks
-    behind-room n k m e =
-        omega (arith, b.long, keep-grows p l (i + 1) n (omega (arith, k)), m, ap length (keep-yes p l i h e), length-append (keep p (take i l)) (get_or l i 0 ∷ []))
+    pub behind_room : (n : ℕ) → i < n → len₀ + length (keep p (take n l)) ≤ blocks → p (get_or l i 0) ≡ true → len < blocks
+    behind_room n k m e =
+        omega (arith, b.long, keep_grows p l (i + 1) n (omega (arith, k)), m, ap length (keep_yes p l i h e), length-append (keep p (take i l)) (get_or l i 0 ∷ []))
 
-    pub behind-yes : len < blocks → p (get_or l i 0) ≡ true → Behind p l block₀ len₀ (set block len (get_or l i 0)) (len + 1) (i + 1)
-    behind-yes m e = record {
+    pub behind_yes : len < blocks → p (get_or l i 0) ≡ true → Behind p l block₀ len₀ (set block len (get_or l i 0)) (len + 1) (i + 1)
+    behind_yes m e = record {
       sized = length-set block len (get_or l i 0) ∙ b.sized;
-      long = omega (arith, b.long, ap length (keep-yes p l i h e), length-append (keep p (take i l)) (get_or l i 0 ∷ []));
+      long = omega (arith, b.long, ap length (keep_yes p l i h e), length-append (keep p (take i l)) (get_or l i 0 ∷ []));
       is =
           ap (λ (k : ℕ). take k (set block len (get_or l i 0))) (add-one len)
           ∙ take-suc-set block len (get_or l i 0) (omega (arith, m, b.sized))
           ∙ ap (λ (s : List ℕ). s ++ (get_or l i 0 ∷ [])) b.is
           ∙ append_assoc (take len₀ block₀) (keep p (take i l)) (get_or l i 0 ∷ [])
-          ∙ ap (λ (s : List ℕ). take len₀ block₀ ++ s) (sym (keep-yes p l i h e));
+          ∙ ap (λ (s : List ℕ). take len₀ block₀ ++ s) (sym (keep_yes p l i h e));
     }

@@ -5,7 +5,7 @@ use Rattle.limits.specs.Limits.{blocks, arms}
 use Rattle.marks.specs.Sets.{room, member, size}
 use Rattle.records.specs.Tables.{optional}
 use Rattle.rules.specs.Lists.{foldl, mem}
-use Rattle.rules.specs.Graph.{Graph, numbersOf, entry}
+use Rattle.rules.specs.Graph.{Graph, numbers_of, entry}
 use Rattle.rules.specs.PlainOrder.{Walk, visit}
 use Rattle.rules.proofs.Membership.{In}
 use Rattle.rules.proofs.Wholeness.{Whole}
@@ -13,24 +13,24 @@ use Rattle.rules.proofs.PlainVisit.{todo, nothing}
 use Rattle.rules.proofs.StackWalk.{Frame, State, run}
 
 -- where n arms from arm f on go, the last first
-unfoldable pub lastFirst : List ℕ → ℕ → ℕ → List ℕ
-lastFirst to f zero = []
-lastFirst to f (suc n) = get_or to (f + n) 0 ∷ lastFirst to f n
+unfoldable pub last_first : List ℕ → ℕ → ℕ → List ℕ
+last_first to f zero = []
+last_first to f (suc n) = get_or to (f + n) 0 ∷ last_first to f n
 
 -- the tables have the arms of g, which all go to blocks of g
 pub record ArmsOf (first count to : List ℕ) (g : Graph) : Type 0 where
-  pub first-sized : length first ≡ blocks
-  pub count-sized : length count ≡ blocks
-  pub to-sized : length to ≡ arms
+  pub first_sized : length first ≡ blocks
+  pub count_sized : length count ≡ blocks
+  pub to_sized : length to ≡ arms
   pub whole : Whole g
-  pub low : (n : ℕ) → In n (numbersOf g) → n < blocks
-  pub within : (n : ℕ) → In n (numbersOf g) → get_or first n 0 + get_or count n 0 ≤ arms
-  pub same : (n : ℕ) → In n (numbersOf g) → todo g n ≡ lastFirst to (get_or first n 0) (get_or count n 0)
+  pub low : (n : ℕ) → In n (numbers_of g) → n < blocks
+  pub within : (n : ℕ) → In n (numbers_of g) → get_or first n 0 + get_or count n 0 ≤ arms
+  pub same : (n : ℕ) → In n (numbers_of g) → todo g n ≡ last_first to (get_or first n 0) (get_or count n 0)
 
 -- the entries of a stack are blocks of g, with no more arms started than they have
 abbrev pub Stacked : Graph → List Frame → Type 0
 Stacked g [] = Unit {0}
-Stacked g (f ∷ st) = (In f.block (numbersOf g) × (f.next ≤ length (todo g f.block))) × Stacked g st
+Stacked g (f ∷ st) = (In f.block (numbers_of g) × (f.next ≤ length (todo g f.block))) × Stacked g st
 
 -- a stack of blocks of a graph that the tables have
 pub record Started (first count to : List ℕ) (st : List Frame) : Type 0 where
@@ -42,7 +42,7 @@ pub record Started (first count to : List ℕ) (st : List Frame) : Type 0 where
 pub record Begins (first count to : List ℕ) (root : ℕ) : Type 0 where
   pub graph : Graph
   pub has : ArmsOf first count to graph
-  pub root_in : In root (numbersOf graph)
+  pub root_in : In root (numbers_of graph)
 
 -- the first n of a table, the last first
 unfoldable pub backwards : List ℕ → ℕ → List ℕ
@@ -51,13 +51,13 @@ backwards l (suc n) = get_or l n 0 ∷ backwards l n
 
 -- the set `seen` and the first n of `done` are those of the walk w
 pub record Shows (w : Walk) (seen done : List ℕ) (n : ℕ) : Type 0 where
-  pub seen-is : (m : ℕ) → member seen m ≡ mem m w.seen
-  pub done-is : backwards done n ≡ w.done
+  pub seen_is : (m : ℕ) → member seen m ≡ mem m w.seen
+  pub done_is : backwards done n ≡ w.done
 
 -- n blocks are finished, which are all that are seen
 pub record Counts (seen done : List ℕ) (n : ℕ) : Type 0 where
-  pub seen-sized : length seen ≡ room
-  pub done-sized : length done ≡ blocks
+  pub seen_sized : length seen ≡ room
+  pub done_sized : length done ≡ blocks
   pub counted : n ≡ size seen
 
 abbrev pub state : List Frame → Walk → State
@@ -81,14 +81,14 @@ Walks first count to st seen done n seen' done' n' =
 -- in every graph that the tables have: after a visit of one of its blocks the tables show what the rules' visit gives
 abbrev pub Visits : List ℕ → List ℕ → List ℕ → ℕ → List ℕ → List ℕ → ℕ → List ℕ → List ℕ → ℕ → Type 0
 Visits first count to root seen done n seen' done' n' =
-    (g : Graph) → ArmsOf first count to g → In root (numbersOf g) → (w : Walk) → Shows w seen done n → Shows (visit g (length g) w root) seen' done' n'
+    (g : Graph) → ArmsOf first count to g → In root (numbers_of g) → (w : Walk) → Shows w seen done n → Shows (visit g (length g) w root) seen' done' n'
 
 -- ---- from the entry
 -- this is the entry, or says that there is none, of a graph that the tables have
 pub record Enters (first count to : List ℕ) (from : ℕ) : Type 0 where
   pub graph : Graph
   pub has : ArmsOf first count to graph
-  pub entry-is : optional from ≡ entry graph
+  pub entry_is : optional from ≡ entry graph
 
 -- the walk from the entry, if there is one
 unfoldable pub entered : Graph → Option ℕ → Walk
@@ -102,7 +102,7 @@ Reaches first count to from seen done n = (g : Graph) → ArmsOf first count to 
 -- ---- from each listed block
 -- the first n that are listed are blocks of g
 abbrev pub ListedIn : List ℕ → ℕ → Graph → Type 0
-ListedIn listed n g = (i : ℕ) → i < n → In (get_or listed i 0) (numbersOf g)
+ListedIn listed n g = (i : ℕ) → i < n → In (get_or listed i 0) (numbers_of g)
 
 -- the first n that are listed are blocks of a graph that the tables have
 pub record Roots (first count to listed : List ℕ) (n : ℕ) : Type 0 where

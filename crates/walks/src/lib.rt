@@ -1,11 +1,13 @@
 // Depth-first walks over the tables, the last arm of a block first, on a stack of their own.
+#![tactic(auto)]
+
 ghost use Rattle.std.specs.Prelude.{◌≡◌, false, not, ◌++◌, ℕ, ◌+◌, ◌≤◌, ◌<◌, length, get_or, take};
-ghost use Rattle.limits.specs.Limits.{numbers, mostArms, blocks, arms};
+ghost use Rattle.limits.specs.Limits.{numbers, most_arms, blocks, arms};
 ghost use Rattle.rules.specs.Lists.{keep};
-ghost use Rattle.records.specs.Tables.{inOrder};
+ghost use Rattle.records.specs.Tables.{in_order};
 ghost use Rattle.marks.specs.Sets.{room, member, size};
 ghost use Rattle.stack.specs.Frames.{Roomy, frames};
-ghost use Rattle.walks.specs.Walking.{lastFirst, Counts, Started, Walks, Begins, Visits, Enters, Reaches, backwards, Roots, VisitsAll};
+ghost use Rattle.walks.specs.Walking.{last_first, Counts, Started, Walks, Begins, Visits, Enters, Reaches, backwards, Roots, VisitsAll};
 ghost use Rattle.walks.specs.Lent.{Lent, LentMarked, Ordered, FinishedAll};
 
 use limits::{ARMS, BLOCKS};
@@ -20,7 +22,7 @@ fn leads_to<'a>(
     next: u16,
 ) -> u16
     requires { (length first.now ≡ blocks) × (length to.now ≡ arms) × (get_or first.now block 0 + n ≤ arms) × (next < n) }
-    ensures { result ≡ get_or (lastFirst to.now (get_or first.now block 0) n) next 0 }
+    ensures { result ≡ get_or (last_first to.now (get_or first.now block 0) n) next 0 }
 {
     let f = lists::entry_of(first, block);
     to[f + (n - 1 - next as usize)]
@@ -129,7 +131,7 @@ fn reach<'a>(
 // The first n finished blocks, the last first.
 fn reversed(done: &[u16; BLOCKS], n: usize) -> Order
     requires { (n ≤ blocks) × (length done.now ≡ blocks) }
-    ensures { (inOrder result ≡ backwards done.now n) × (result.len ≡ n) }
+    ensures { (in_order result ≡ backwards done.now n) × (result.len ≡ n) }
 {
     let mut block: [u16; BLOCKS] = [0; BLOCKS];
     let mut i: usize = 0;
@@ -149,7 +151,7 @@ fn unreached<'a>(
 ) -> Order
     requires seen_len { (length seen.now ≡ room) × (length listed.now ≡ blocks) × (n ≤ blocks) }
     requires listed_bound { o.len + length (keep (λ (m : ℕ). not (member seen.now m)) (take n listed.now)) ≤ blocks }
-    ensures result_value { inOrder result ≡ inOrder o ++ keep (λ (m : ℕ). not (member seen.now m)) (take n listed.now) }
+    ensures result_value { in_order result ≡ in_order o ++ keep (λ (m : ℕ). not (member seen.now m)) (take n listed.now) }
     ensures len_value { result.len ≡ o.len + length (keep (λ (m : ℕ). not (member seen.now m)) (take n listed.now)) }
 {
     let mut i: usize = 0;
@@ -175,7 +177,7 @@ pub fn order<'a>(
     to: &'a [u16; ARMS],
     n: usize,
 ) -> Order
-    requires { LentMarked numbers mostArms listed.now marks.now first.now count.now to.now n }
+    requires { LentMarked numbers most_arms listed.now marks.now first.now count.now to.now n }
     ensures { Ordered listed.now marks.now first.now count.now to.now n result }
 {
     let mut seen = marks::none();

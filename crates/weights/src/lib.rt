@@ -1,6 +1,8 @@
 // Shares of weights, exact in 64 bits: where a product would be too wide, the quotient and the remainder are multiplied.
+#![tactic(auto)]
+
 ghost use Rattle.std.specs.Prelude.{◌≡◌, ◌*◌, ◌/◌, ◌≤◌, ◌<◌, leb};
-ghost use Rattle.rules.specs.Weights.{scale, share, floor, overFourFifths};
+ghost use Rattle.rules.specs.Weights.{scale, share, floor, over_four_fifths};
 
 // Shares are parts of this.
 pub const SCALE: u64 = 10000;
@@ -39,7 +41,7 @@ pub fn at_least(w: u64, whole: u64, likely: u64) -> bool
 
 // "5 x arm > 4 x target weight".
 pub fn over_four_fifths(arm: u64, whole: u64) -> bool
-    ensures { result ≡ overFourFifths arm whole }
+    ensures { result ≡ over_four_fifths arm whole }
 {
     4 * (whole / 5) + 4 * (whole % 5) / 5 < arm
 }

@@ -1,5 +1,7 @@
 // Reads records from standard input and writes them back to standard output; a refusal prints only `refused N at P`.
 // All that decides anything is in `layout`: this program moves bytes.
+#![tactic(auto)]
+
 ghost use Rattle.io.specs.Counts.{IsPrefixLen};
 
 // How many of buf's bytes n are, at most all.

@@ -1,9 +1,11 @@
 // A graph written as records: its blocks as listed, then the arms of each in that order.
+#![tactic(auto)]
+
 ghost use Rattle.std.specs.Prelude.{◌≡◌, ◌+◌, ◌*◌, ◌≤◌, ◌++◌, length, drop};
 ghost use Rattle.limits.specs.Limits.{size, blocks, arms};
 ghost use Rattle.lists.specs.Behind.{behind};
-ghost use Rattle.rules.specs.Records.{blocksBytes, leavingBytes, armsBytes, written};
-ghost use Rattle.records.specs.Tables.{armsFrom, onlyBlocks, onlyListed, onlyArms, armTables, up_to, noArms, ArmsWithin};
+ghost use Rattle.rules.specs.Records.{blocks_bytes, leaving_bytes, arms_bytes, written};
+ghost use Rattle.records.specs.Tables.{arms_from, only_blocks, only_listed, only_arms, arm_tables, up_to, no_arms, ArmsWithin};
 ghost use Rattle.writer.specs.Files.{Writable};
 
 use limits::{ARMS, BLOCKS, RECORD};
@@ -20,7 +22,7 @@ fn put_blocks<'a>(
 )
     requires n_le_blocks { (n ≤ blocks) × (length marks.now ≡ blocks) × (length ends.now ≡ blocks) × (length weight.now ≡ blocks) }
     requires n_in_bounds { size * n ≤ length out.old }
-    ensures { out.new ≡ blocksBytes (up_to (onlyBlocks listed.now marks.now ends.now weight.now) noArms n) ++ drop (size * n) out.old }
+    ensures { out.new ≡ blocks_bytes (up_to (only_blocks listed.now marks.now ends.now weight.now) no_arms n) ++ drop (size * n) out.old }
 {
     let mut i: usize = 0;
     while i < n {
@@ -51,7 +53,7 @@ fn put_leaving<'a>(
     out: &mut [u8],
 )
     requires { (first + count ≤ arms) × (length out.old ≡ size * count) }
-    ensures { out.new ≡ leavingBytes from (armsFrom (onlyArms to.now args.now weight.now) first count) }
+    ensures { out.new ≡ leaving_bytes from (arms_from (only_arms to.now args.now weight.now) first count) }
 {
     let mut j: usize = 0;
     while j < count {
@@ -83,9 +85,9 @@ pub fn put_arms<'a>(
     out: &mut [u8],
 )
     requires n_le_blocks { (n ≤ blocks) × (length first.now ≡ blocks) × (length count.now ≡ blocks) }
-    requires arms_within { ArmsWithin (armTables first.now count.now to.now args.now weight.now) arms }
-    requires n_in_bounds { size * n + length (armsBytes (up_to (onlyListed listed.now) (armTables first.now count.now to.now args.now weight.now) n)) ≤ length out.old }
-    ensures { out.new ≡ behind (size * n) (armsBytes (up_to (onlyListed listed.now) (armTables first.now count.now to.now args.now weight.now) n)) out.old }
+    requires arms_within { ArmsWithin (arm_tables first.now count.now to.now args.now weight.now) arms }
+    requires n_in_bounds { size * n + length (arms_bytes (up_to (only_listed listed.now) (arm_tables first.now count.now to.now args.now weight.now) n)) ≤ length out.old }
+    ensures { out.new ≡ behind (size * n) (arms_bytes (up_to (only_listed listed.now) (arm_tables first.now count.now to.now args.now weight.now) n)) out.old }
 {
     let mut at: usize = RECORD * n;
     let mut i: usize = 0;
@@ -114,8 +116,8 @@ pub fn write<'a>(
     n: usize,
     out: &mut [u8],
 )
-    requires { Writable (onlyBlocks listed.now marks.now ends.now weight.now) (armTables first.now count.now to.now args.now heft.now) n (length out.old) }
-    ensures { out.new ≡ written (up_to (onlyBlocks listed.now marks.now ends.now weight.now) (armTables first.now count.now to.now args.now heft.now) n) ++ drop (length (written (up_to (onlyBlocks listed.now marks.now ends.now weight.now) (armTables first.now count.now to.now args.now heft.now) n))) out.old }
+    requires { Writable (only_blocks listed.now marks.now ends.now weight.now) (arm_tables first.now count.now to.now args.now heft.now) n (length out.old) }
+    ensures { out.new ≡ written (up_to (only_blocks listed.now marks.now ends.now weight.now) (arm_tables first.now count.now to.now args.now heft.now) n) ++ drop (length (written (up_to (only_blocks listed.now marks.now ends.now weight.now) (arm_tables first.now count.now to.now args.now heft.now) n))) out.old }
 {
     put_blocks(listed, marks, ends, weight, n, out);
     put_arms(listed, first, count, to, args, heft, n, out);

@@ -2,7 +2,7 @@
 use native.Mathlib.Omega.{arith}
 use borrow.Author.Rules.{rules}
 use Rattle.limits.specs.Limits.{arms}
-use Rattle.along.proofs.ChoosingLaws.{held, first_one, later-one, former-one}
+use Rattle.along.proofs.ChoosingLaws.{held, first_one, later_one, former_one}
 use Rattle.along.proofs.better.Statement.{statement}
 use Rattle.along.proofs.better.Tie as tie
 
@@ -19,13 +19,13 @@ returns-2 : tie.Need-returns-2
 returns-2 c =
     let s = c.before.before.before.before in
     let a = s.before.before.args in
-    later-one a.heft.now a.best a.q _ s.best.given.1 c.if1.true
+    later_one a.heft.now a.best a.q _ s.best.given.1 c.if1.true
 
 returns-3 : tie.Need-returns-3
 returns-3 c =
     let s = c.before.before.before.before in
     let a = s.before.before.args in
-    former-one a.heft.now a.best a.q _ s.best.given.1 c.if1.false
+    former_one a.heft.now a.best a.q _ s.best.given.1 c.if1.false
 
 pub better-spec : {M : Type 1} → statement M
 better-spec =

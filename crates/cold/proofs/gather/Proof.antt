@@ -5,7 +5,7 @@ use mathlib.Core.Path.{◌≡◌, sym, ap, ◌∙◌, subst}
 use mathlib.Core.Logic.{⊎_elim}
 use lib.ListN.{length, take}
 use Rattle.cold.specs.Sides.{Gathered}
-use Rattle.cold.proofs.SideLaws.{gather-start, gather-room, gather-yes, gather-no}
+use Rattle.cold.proofs.SideLaws.{gather_start, gather_room, gather_yes, gather_no}
 use borrow.Author.Rules.{rules}
 use Rattle.cold.proofs.gather.Statement.{statement}
 use Rattle.cold.proofs.gather.Tie as tie
@@ -19,7 +19,7 @@ decreases-loop block marks len side at out₀ to₀ i₀ out to i = len - i
 loop-holds : tie.Need-loop-init invariant-loop decreases-loop
 loop-holds c =
     let x = c.args in
-    (search rules, gather-start x.marks.now x.side x.block.now x.at x.out.now)
+    (search rules, gather_start x.marks.now x.side x.block.now x.at x.out.now)
 
 byte-of-requires : tie.Need-byte-of-requires invariant-loop decreases-loop
 byte-of-requires c κs = c.before.before.before.requires.0.2
@@ -28,7 +28,7 @@ element-write-out : tie.Need-element-write-out invariant-loop decreases-loop
 element-write-out c =
     let l = c.before.before.before.before.before.loop in
     let x = c.before.before.before.before.before.before.args in
-    gather-room x.marks.now x.side x.block.now x.at x.out.now l.i l.to l.out (omega arith) l.invariant.1 x.len _ (omega arith)
+    gather_room x.marks.now x.side x.block.now x.at x.out.now l.i l.to l.out (omega arith) l.invariant.1 x.len _ (omega arith)
     (sym (c.before.side-of.ensures ∙ ap (λ (m : ℕ). m / 2 % 2) c.before.before.byte_of.ensures) ∙ c.if1.true) c.before.before.before.before.before.before.requires.1
 
 add-to : tie.Need-overflow-add-to invariant-loop decreases-loop
@@ -37,7 +37,7 @@ add-to c =
     let x = c.before.before.before.before.before.before.args in
     omega (
       arith,
-      gather-room x.marks.now x.side x.block.now x.at x.out.now l.i l.to l.out (omega arith) l.invariant.1 x.len _ (omega arith)
+      gather_room x.marks.now x.side x.block.now x.at x.out.now l.i l.to l.out (omega arith) l.invariant.1 x.len _ (omega arith)
           (sym (c.before.side-of.ensures ∙ ap (λ (m : ℕ). m / 2 % 2) c.before.before.byte_of.ensures) ∙ c.if1.true) c.before.before.before.before.before.before.requires.1,
     )
 
@@ -47,7 +47,7 @@ mul-out c =
     let x = c.before.before.before.before.before.before.args in
     omega (
       arith,
-      gather-room x.marks.now x.side x.block.now x.at x.out.now l.i l.to l.out (omega arith) l.invariant.1 x.len _ (omega arith)
+      gather_room x.marks.now x.side x.block.now x.at x.out.now l.i l.to l.out (omega arith) l.invariant.1 x.len _ (omega arith)
           (sym (c.before.side-of.ensures ∙ ap (λ (m : ℕ). m / 2 % 2) c.before.before.byte_of.ensures) ∙ c.if1.true) c.before.before.before.before.before.before.requires.1,
     )
 
@@ -60,9 +60,9 @@ loop-again c =
     let inside : l.i < length x.block.now = omega arith in (
       search rules,
       ⊎_elim
-          (λ w. let room = gather-room x.marks.now x.side x.block.now x.at x.out.now l.i l.to l.out inside l.invariant.1 x.len _ (omega arith) (sym e ∙ w.0.taken) p.1 in
-          rw (w.1, w.2) (gather-yes x.marks.now x.side x.block.now x.at x.out.now l.i l.to l.out inside l.invariant.1 (sym e ∙ w.0.taken) (omega (arith, room, l.invariant.1.sized))))
-          (λ w. rw (w.1, w.2) (gather-no x.marks.now x.side x.block.now x.at x.out.now l.i l.to l.out inside l.invariant.1 (λ q. w.0.left (e ∙ q))))
+          (λ w. let room = gather_room x.marks.now x.side x.block.now x.at x.out.now l.i l.to l.out inside l.invariant.1 x.len _ (omega arith) (sym e ∙ w.0.taken) p.1 in
+          rw (w.1, w.2) (gather_yes x.marks.now x.side x.block.now x.at x.out.now l.i l.to l.out inside l.invariant.1 (sym e ∙ w.0.taken) (omega (arith, room, l.invariant.1.sized))))
+          (λ w. rw (w.1, w.2) (gather_no x.marks.now x.side x.block.now x.at x.out.now l.i l.to l.out inside l.invariant.1 (λ q. w.0.left (e ∙ q))))
           c.if1.branch,
     )
 

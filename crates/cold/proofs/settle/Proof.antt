@@ -3,7 +3,7 @@ use Prim.Native.Nat.{ℕ}
 use Rattle.cold.specs.Ways.{links}
 use Rattle.cold.specs.Sweeps.{Cools, Sweeps}
 use Rattle.cold.specs.Sweeps.Cools.{still}
-use Rattle.cold.proofs.SweepLaws.{warms, settle-less, settle-more, settle-on, settle-last}
+use Rattle.cold.proofs.SweepLaws.{warms, settle_less, settle_more, settle_on, settle_last}
 use Rattle.cold.proofs.settle.Statement.{statement}
 use Rattle.cold.proofs.settle.Tie as tie
 
@@ -26,7 +26,7 @@ returns c =
     let l = c.before.before.before.before.loop in
     let d = c.before.before.before.before.before in
     let x = d.args in
-    settle-last (links x.listed.now x.first.now x.count.now x.to.now x.n) d.requires.linked x.entry x.ins.now x.marks.now l.marks l.cold _ _ _
+    settle_last (links x.listed.now x.first.now x.count.now x.to.now x.n) d.requires.linked x.entry x.ins.now x.marks.now l.marks l.cold _ _ _
     l.invariant.0 c.before.sweep.ensures l.invariant.1 c.if1.true
 
 loop-less : tie.Need-loop-smaller invariant-loop decreases-loop
@@ -34,7 +34,7 @@ loop-less c =
     let l = c.before.before.before.before.loop in
     let d = c.before.before.before.before.before in
     let x = d.args in
-    settle-less (links x.listed.now x.first.now x.count.now x.to.now x.n) d.requires.linked x.entry x.ins.now x.marks.now l.marks l.cold _ _ _
+    settle_less (links x.listed.now x.first.now x.count.now x.to.now x.n) d.requires.linked x.entry x.ins.now x.marks.now l.marks l.cold _ _ _
     l.invariant.0 c.before.sweep.ensures c.if1.false
 
 loop-again : tie.Need-loop-preserved invariant-loop decreases-loop
@@ -43,8 +43,8 @@ loop-again c =
     let d = c.before.before.before.before.before in
     let x = d.args in
     let w = links x.listed.now x.first.now x.count.now x.to.now x.n in (
-      settle-more w d.requires.linked x.entry x.ins.now x.marks.now l.marks l.cold _ _ _ l.invariant.0 c.before.sweep.ensures,
-      settle-on w d.requires.linked x.entry x.ins.now x.marks.now l.marks l.cold _ _ _ l.invariant.0 c.before.sweep.ensures l.invariant.1,
+      settle_more w d.requires.linked x.entry x.ins.now x.marks.now l.marks l.cold _ _ _ l.invariant.0 c.before.sweep.ensures,
+      settle_on w d.requires.linked x.entry x.ins.now x.marks.now l.marks l.cold _ _ _ l.invariant.0 c.before.sweep.ensures l.invariant.1,
     )
 
 pub settle-spec : {M : Type 1} → statement M

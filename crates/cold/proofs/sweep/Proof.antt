@@ -4,7 +4,7 @@ use native.Mathlib.Omega.{arith}
 use mathlib.Core.Path.{◌≡◌, subst}
 use Rattle.cold.specs.Ways.{links}
 use Rattle.cold.specs.Sweeps.{Swept}
-use Rattle.cold.proofs.SweepLaws.{chill-one, sweep-start, sweep-chills, sweep-more}
+use Rattle.cold.proofs.SweepLaws.{chill_one, sweep_start, sweep_chills, sweep_more}
 use borrow.Author.Rules.{rules}
 use Rattle.cold.proofs.sweep.Statement.{statement}
 use Rattle.cold.proofs.sweep.Tie as tie
@@ -19,17 +19,17 @@ decreases-loop listed first count to ins n entry marks₀ cold₀ joined₀ i₀
 loop-holds : tie.Need-loop-init invariant-loop decreases-loop
 loop-holds c =
     let x = c.args in
-    (search rules, search rules, sweep-start (links x.listed.now x.first.now x.count.now x.to.now x.n) c.requires.linked x.entry x.ins.now x.marks.now x.cold.now c.requires)
+    (search rules, search rules, sweep_start (links x.listed.now x.first.now x.count.now x.to.now x.n) c.requires.linked x.entry x.ins.now x.marks.now x.cold.now c.requires)
 
 chill-requires : tie.Need-chill-requires invariant-loop decreases-loop
 chill-requires c κs =
     let l = c.before.before.before.before.loop in
     let d = c.before.before.before.before.before in
     let x = d.args in
-    sweep-chills (links x.listed.now x.first.now x.count.now x.to.now x.n) d.requires.linked x.entry x.marks.now l.marks l.cold l.i l.joined (omega arith) l.invariant.2
+    sweep_chills (links x.listed.now x.first.now x.count.now x.to.now x.n) d.requires.linked x.entry x.marks.now l.marks l.cold l.i l.joined (omega arith) l.invariant.2
 
 add-joined : tie.Need-overflow-add-joined invariant-loop decreases-loop
-add-joined c = omega (arith, chill-one c.chill.ensures)
+add-joined c = omega (arith, chill_one c.chill.ensures)
 
 loop-again : tie.Need-loop-preserved invariant-loop decreases-loop
 loop-again c =
@@ -37,8 +37,8 @@ loop-again c =
     let d = c.before.before.before.before.before.before in
     let x = d.args in (
       search rules,
-      omega (arith, chill-one c.chill.ensures),
-      sweep-more (links x.listed.now x.first.now x.count.now x.to.now x.n) d.requires.linked x.entry x.marks.now l.marks l.cold l.i l.joined (omega arith) l.invariant.2
+      omega (arith, chill_one c.chill.ensures),
+      sweep_more (links x.listed.now x.first.now x.count.now x.to.now x.n) d.requires.linked x.entry x.marks.now l.marks l.cold l.i l.joined (omega arith) l.invariant.2
           x.ins.now d.requires.arms _ _ _ c.chill.ensures,
     )
 

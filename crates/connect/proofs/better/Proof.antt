@@ -2,7 +2,7 @@
 use mathlib.Core.Path.{sym, ap, ◌∙◌}
 use borrow.Author.Rules.{rules}
 use Rattle.connect.specs.Links.{link_of}
-use Rattle.connect.proofs.LinkLaws.{no_other, no-best, other-one, best-one}
+use Rattle.connect.proofs.LinkLaws.{no_other, no_best, other_one, best_one}
 use Rattle.connect.proofs.better.Statement.{statement}
 use Rattle.connect.proofs.better.Tie as tie
 
@@ -13,7 +13,7 @@ returns-2 : tie.Need-returns-2
 returns-2 c =
     let o = c.before.before.before in
     let a = o.before.before.args in
-    sym (ap link_of o.other.given.1) ∙ no-best a.best a.other _ o.other.given.1 c.enum-told2.given.1
+    sym (ap link_of o.other.given.1) ∙ no_best a.best a.other _ o.other.given.1 c.enum-told2.given.1
 
 returns-3 : tie.Need-returns-3
 returns-3 c =
@@ -21,7 +21,7 @@ returns-3 c =
     let o = b.before.before.before in
     let a = o.before.before.args in
     sym (ap link_of o.other.given.1)
-    ∙ other-one a.best a.other _ o.other.given.1 _ b.best.given.1 (sym c.if1.true ∙ c.before.looser.ensures)
+    ∙ other_one a.best a.other _ o.other.given.1 _ b.best.given.1 (sym c.if1.true ∙ c.before.looser.ensures)
 
 returns-4 : tie.Need-returns-4
 returns-4 c =
@@ -29,7 +29,7 @@ returns-4 c =
     let o = b.before.before.before in
     let a = o.before.before.args in
     sym (ap link_of b.best.given.1)
-    ∙ best-one a.best a.other _ o.other.given.1 _ b.best.given.1 (sym c.if1.false ∙ c.before.looser.ensures)
+    ∙ best_one a.best a.other _ o.other.given.1 _ b.best.given.1 (sym c.if1.false ∙ c.before.looser.ensures)
 
 pub better-spec : {M : Type 1} → statement M
 better-spec =

@@ -7,7 +7,7 @@ use lib.ListN.{length, take, length-set}
 use lib.Seq.{slice}
 use borrow.Author.Rules.{rules}
 use Rattle.limits.specs.Limits.{blocks}
-use Rattle.connect.proofs.TraceLaws.{put-none, put-more}
+use Rattle.connect.proofs.TraceLaws.{put_none, put_more}
 use Rattle.connect.proofs.copy.Statement.{statement}
 use Rattle.connect.proofs.copy.Tie as tie
 
@@ -21,7 +21,7 @@ decreases-loop order from end block₀ len at₀ i₀ block at i = end - i
 loop-holds : tie.Need-loop-init invariant-loop decreases-loop
 loop-holds c =
     let a = c.args in
-    (omega arith, omega arith, omega arith, c.requires.0.1, put-none (take a.len a.block.now) a.order.now a.from)
+    (omega arith, omega arith, omega arith, c.requires.0.1, put_none (take a.len a.block.now) a.order.now a.from)
 
 loop-again : tie.Need-loop-preserved invariant-loop decreases-loop
 loop-again c =
@@ -32,7 +32,7 @@ loop-again c =
       omega arith,
       omega arith,
       length-set l.loop.block l.loop.at _ ∙ v.3,
-      put-more (take a.len a.block.now) a.order.now l.loop.block a.from l.loop.i l.loop.at v.0 (omega arith) (omega arith) v.4,
+      put_more (take a.len a.block.now) a.order.now l.loop.block a.from l.loop.i l.loop.at v.0 (omega arith) (omega arith) v.4,
     )
 
 returns : tie.Need-returns invariant-loop decreases-loop

@@ -5,7 +5,7 @@ use borrow.Author.Rules.{rules}
 use Rattle.limits.specs.Limits.{blocks}
 use Rattle.marks.specs.Sets.{size}
 use Rattle.connect.specs.Following.{Begins}
-use Rattle.connect.proofs.FollowLaws.{few, some-blocks, within, found-by, fewer-left, room_for, Along, along-start, along-stop, along-next}
+use Rattle.connect.proofs.FollowLaws.{few, some_blocks, within, found_by, fewer_left, room_for, Along, along_start, along_stop, along_next}
 use Rattle.connect.proofs.follow.Statement.{statement}
 use Rattle.connect.proofs.follow.Tie as tie
 
@@ -27,7 +27,7 @@ at_low l = let b = at-hand l in omega (arith, b.goes.one, few _ _ _ _ _ _ _ _ b)
 loop-holds : tie.Need-loop-init invariant-loop decreases-loop
 loop-holds c found b =
     let a = c.args in
-    along-start a.marks.now a.first.now a.count.now a.to.now a.heft.now a.order.now a.ends.now a.head.now a.used.now a.block.now a.len a.from found b
+    along_start a.marks.now a.first.now a.count.now a.to.now a.heft.now a.order.now a.ends.now a.head.now a.used.now a.block.now a.len a.from found b
 
 mul_wide : tie.Need-overflow-mul-wide invariant-loop decreases-loop
 mul_wide c = omega (arith, at_low c)
@@ -39,10 +39,10 @@ cast-mark : tie.Need-overflow-cast-mark invariant-loop decreases-loop
 cast-mark c = omega (arith, at_low c.before.before.before)
 
 mark-requires : tie.Need-mark-requires invariant-loop decreases-loop
-mark-requires c κs = let l = c.before.before.before in ((at-hand l).places.used-sized, at_low l)
+mark-requires c κs = let l = c.before.before.before in ((at-hand l).places.used_sized, at_low l)
 
 begin-requires : tie.Need-begin-requires invariant-loop decreases-loop
-begin-requires c κs = let l = c.before.before.before.before in ((at-hand l).joinable.ends-sized, omega (arith, at_low l))
+begin-requires c κs = let l = c.before.before.before.before in ((at-hand l).joinable.ends_sized, omega (arith, at_low l))
 
 copy-requires : tie.Need-copy-requires invariant-loop decreases-loop
 copy-requires c κs =
@@ -51,9 +51,9 @@ copy-requires c κs =
     let b = at-hand l in
     let begin = c.before.begin.ensures in
     let end = e.wide.ensures in (
-      (b.joinable.order-sized, b.places.block-sized),
+      (b.joinable.order_sized, b.places.block_sized),
       (
-        omega (arith, begin, end, some-blocks _ _ _ _ _ _ _ _ b),
+        omega (arith, begin, end, some_blocks _ _ _ _ _ _ _ _ b),
         omega (arith, end, within _ _ _ _ _ _ _ _ b, b.joinable.last),
         omega (arith, begin, end, room_for _ _ _ _ _ _ _ _ b _ c.before.before.mark.ensures.1),
       ),
@@ -66,7 +66,7 @@ end_low e = let b = at-hand e.before.before in omega (arith, e.wide.ensures, wit
 sub-last : tie.Need-overflow-sub-last invariant-loop decreases-loop
 sub-last c =
     let e = c.before.before.before.before.before in
-    omega (arith, e.wide.ensures, some-blocks _ _ _ _ _ _ _ _ (at-hand e.before.before))
+    omega (arith, e.wide.ensures, some_blocks _ _ _ _ _ _ _ _ (at-hand e.before.before))
 
 mul-last : tie.Need-overflow-mul-last invariant-loop decreases-loop
 mul-last c = omega (arith, end_low c.before.before.before.before.before)
@@ -78,7 +78,7 @@ next-trace-requires : tie.Need-next-trace-requires invariant-loop decreases-loop
 next-trace-requires c κs =
     let k = c.before.before.before.before.before in
     let l = k.before.before.before.before in
-    (l.before.requires.0, found-by _ _ _ _ _ _ _ _ (at-hand l) _ k.mark.ensures.0)
+    (l.before.requires.0, found_by _ _ _ _ _ _ _ _ (at-hand l) _ k.mark.ensures.0)
 
 returns : tie.Need-returns invariant-loop decreases-loop
 returns c found b =
@@ -88,7 +88,7 @@ returns c found b =
     let e = m.before.before in
     let l = e.before.before in
     let a = l.before.args in
-    along-stop a.marks.now a.first.now a.count.now a.to.now a.heft.now a.order.now a.ends.now a.head.now a.used.now a.block.now a.len a.from found
+    along_stop a.marks.now a.first.now a.count.now a.to.now a.heft.now a.order.now a.ends.now a.head.now a.used.now a.block.now a.len a.from found
     l.loop.used l.loop.block l.loop.laid l.loop.at (l.loop.invariant found b) _ _ p.before.before.begin.ensures e.wide.ensures
     _ _ _ m.mark.ensures p.copy.ensures _ n.next-trace.ensures.1 c.enum_told.given.1
 
@@ -96,7 +96,7 @@ loop-less : tie.Need-loop-smaller invariant-loop decreases-loop
 loop-less c =
     let m = c.before.before.before.before.before.before.before.before.before in
     let l = m.before.before.before.before in
-    fewer-left _ _ _ _ _ _ _ _ (at-hand l) _ m.mark.ensures.1
+    fewer_left _ _ _ _ _ _ _ _ (at-hand l) _ m.mark.ensures.1
 
 loop-again : tie.Need-loop-preserved invariant-loop decreases-loop
 loop-again c found b =
@@ -106,7 +106,7 @@ loop-again c found b =
     let e = m.before.before in
     let l = e.before.before in
     let a = l.before.args in
-    along-next a.marks.now a.first.now a.count.now a.to.now a.heft.now a.order.now a.ends.now a.head.now a.used.now a.block.now a.len a.from found
+    along_next a.marks.now a.first.now a.count.now a.to.now a.heft.now a.order.now a.ends.now a.head.now a.used.now a.block.now a.len a.from found
     l.loop.used l.loop.block l.loop.laid l.loop.at (l.loop.invariant found b) _ _ p.before.before.begin.ensures e.wide.ensures
     _ _ _ m.mark.ensures p.copy.ensures _ n.next-trace.ensures.1 _ c.before.next.given.1 n.next-trace.ensures.0
 

@@ -6,11 +6,11 @@ use mathlib.Core.List.{List}
 use lib.ListN.{length, get_or}
 use Rattle.limits.specs.Limits.{blocks, arms}
 use Rattle.lists.specs.Marked.{marked}
-use Rattle.lists.proofs.Tables.{marked-room}
+use Rattle.lists.proofs.Tables.{marked_room}
 use Rattle.stack.specs.Frames.{frames, Roomy}
 use Rattle.cycles.specs.Inward.{Linked}
-use Rattle.cycles.specs.Gathering.{blocksOn}
-use Rattle.cycles.proofs.GatherLaws.{Going, going_start, going_end, linked-first, first-in, turn-old, turn-new-on, join_more, join-sized}
+use Rattle.cycles.specs.Gathering.{blocks_on}
+use Rattle.cycles.proofs.GatherLaws.{Going, going_start, going_end, linked_first, first_in, turn_old, turn_new_on, join_more, join_sized}
 use borrow.Author.Rules.{rules}
 use Rattle.cycles.proofs.gather.Statement.{statement}
 use Rattle.cycles.proofs.gather.Tie as tie
@@ -18,7 +18,7 @@ use Rattle.cycles.proofs.gather.Tie as tie
 abbrev invariant-loop : tie.invariant-loop
 invariant-loop next from start number waiting₀ started₀ below piece₀ len₀ k₀ waiting started piece len k =
     (length piece ≡ blocks) × (len + marked piece₀ blocks ≡ len₀ + marked piece blocks)
-    × ((w : List ℕ) → Linked next from arms start w → Going next from w number piece₀ (blocksOn (frames waiting₀ started₀ len₀)) piece (blocksOn (frames waiting started len)) k) × Roomy waiting started
+    × ((w : List ℕ) → Linked next from arms start w → Going next from w number piece₀ (blocks_on (frames waiting₀ started₀ len₀)) piece (blocks_on (frames waiting started len)) k) × Roomy waiting started
 
 abbrev decreases-loop : tie.decreases-loop
 decreases-loop next from start number waiting₀ started₀ below piece₀ len₀ k₀ waiting started piece len k = k
@@ -26,15 +26,15 @@ decreases-loop next from start number waiting₀ started₀ below piece₀ len�
 loop-holds : tie.Need-loop-init invariant-loop decreases-loop
 loop-holds c =
     let x = c.args in
-    (c.requires.1.0, search rules, λ w h. going_start x.next.now x.from.now w x.number x.piece.now (blocksOn (frames x.waiting.now x.started.now x.below)) x.start h, c.requires.1.2)
+    (c.requires.1.0, search rules, λ w h. going_start x.next.now x.from.now w x.number x.piece.now (blocks_on (frames x.waiting.now x.started.now x.below)) x.start h, c.requires.1.2)
 
 -- where the list stands at a turn
 module _ (next from : List ℕ) (w : List ℕ) (c : ℕ) (p st q st' : List ℕ) (k : ℕ) (g : Going next from w c p st q st' k) (pos : 0 < k) where
   within : k ≤ arms
-  within = (linked-first next from k g.rest pos g.linked).within
+  within = (linked_first next from k g.rest pos g.linked).within
 
   falls : get_or next (k - 1) 0 < k
-  falls = (linked-first next from k g.rest pos g.linked).falls
+  falls = (linked_first next from k g.rest pos g.linked).falls
 
 mul-m : tie.Need-overflow-mul-m invariant-loop decreases-loop
 mul-m c =
@@ -75,7 +75,7 @@ loop-again : tie.Need-loop-preserved invariant-loop decreases-loop
 loop-again c =
     let l = c.before.before.before.before.before.before.before.loop in
     let pos = c.before.before.before.before.before.before.loop-test.true in
-    (l.invariant.0, l.invariant.1, λ w h. turn-old (l.invariant.2 w h) pos _ c.before.before.before.wide.ensures (omega (arith, c.before.entry_of.ensures, c.if1.true)), l.invariant.3)
+    (l.invariant.0, l.invariant.1, λ w h. turn_old (l.invariant.2 w h) pos _ c.before.before.before.wide.ensures (omega (arith, c.before.entry_of.ensures, c.if1.true)), l.invariant.3)
 
 mul-piece : tie.Need-overflow-mul-piece invariant-loop decreases-loop
 mul-piece c =
@@ -84,7 +84,7 @@ mul-piece c =
     let pos = c.before.before.before.before.before.before.before.loop-test.true in
     let p = s.requires.0 in
     let m = get_or s.args.from.now (l.k - 1) 0 in
-    let low : m < blocks = p.2.low m (first-in (l.invariant.2 p.2.list p.2.linked) pos) in
+    let low : m < blocks = p.2.low m (first_in (l.invariant.2 p.2.list p.2.linked) pos) in
     omega (arith, low, c.wide2.ensures)
 
 element-write-piece : tie.Need-element-write-piece invariant-loop decreases-loop
@@ -94,7 +94,7 @@ element-write-piece c =
     let pos = c.before.before.before.before.before.before.before.loop-test.true in
     let p = s.requires.0 in
     let m = get_or s.args.from.now (l.k - 1) 0 in
-    let low : m < blocks = p.2.low m (first-in (l.invariant.2 p.2.list p.2.linked) pos) in
+    let low : m < blocks = p.2.low m (first_in (l.invariant.2 p.2.list p.2.linked) pos) in
     omega (arith, low, c.wide2.ensures)
 
 put-requires : tie.Need-put-requires invariant-loop decreases-loop
@@ -104,9 +104,9 @@ put-requires c κs =
     let pos = c.before.before.before.before.before.before.before.before.before.loop-test.true in
     let p = s.requires.0 in
     let m = get_or s.args.from.now (l.k - 1) 0 in
-    let low : m < blocks = p.2.low m (first-in (l.invariant.2 p.2.list p.2.linked) pos) in
+    let low : m < blocks = p.2.low m (first_in (l.invariant.2 p.2.list p.2.linked) pos) in
     let free : get_or l.piece m 0 ≡ 0 = omega (arith, c.before.before.before.before.entry_of.ensures, c.before.before.before.if1.false) in
-    (omega (arith, l.invariant.1, s.requires.1.1, marked-room l.piece blocks m low free), l.invariant.3)
+    (omega (arith, l.invariant.1, s.requires.1.1, marked_room l.piece blocks m low free), l.invariant.3)
 
 loop-less-2 : tie.Need-loop-smaller-2 invariant-loop decreases-loop
 loop-less-2 c =
@@ -123,12 +123,12 @@ loop-again-2 c =
     let pos = c.before.before.before.before.before.before.before.before.before.before.loop-test.true in
     let p = s.requires.0 in
     let m = get_or s.args.from.now (l.k - 1) 0 in
-    let low : m < blocks = p.2.low m (first-in (l.invariant.2 p.2.list p.2.linked) pos) in
+    let low : m < blocks = p.2.low m (first_in (l.invariant.2 p.2.list p.2.linked) pos) in
     let free : get_or l.piece m 0 ≡ 0 = omega (arith, c.before.before.before.before.before.entry_of.ensures, c.before.before.before.before.if1.false) in
     let b = c.before.before.before.wide2.ensures in (
-      join-sized l.piece _ s.args.number l.invariant.0,
+      join_sized l.piece _ s.args.number l.invariant.0,
       omega (arith, l.invariant.1, c.put.ensures.more, join_more l.piece m c.before.before.before.wide2.result s.args.number b l.invariant.0 low free p.3),
-      λ w h. turn-new-on (l.invariant.2 w h) pos _ _ 0 refl c.put.ensures.holds c.before.before.before.before.before.before.before.wide.ensures b free (omega (arith, low, l.invariant.0)) p.3,
+      λ w h. turn_new_on (l.invariant.2 w h) pos _ _ 0 refl c.put.ensures.holds c.before.before.before.before.before.before.before.wide.ensures b free (omega (arith, low, l.invariant.0)) p.3,
       c.put.ensures.roomy,
     )
 

@@ -1,6 +1,6 @@
 -- `cycles::link` meets its contract.
 use native.Mathlib.Omega.{arith}
-use Rattle.cycles.proofs.InwardLaws.{link-sized, link-more-at}
+use Rattle.cycles.proofs.InwardLaws.{link_sized, link_more_at}
 use borrow.Author.Rules.{rules}
 use Rattle.cycles.proofs.link.Statement.{statement}
 use Rattle.cycles.proofs.link.Tie as tie
@@ -10,8 +10,8 @@ returns c =
     let x = c.before.before.args in
     let p = c.before.before.requires in
     let b = c.before.wide in (
-      link-sized _ _ _ p.0 x.k x.m b.result p.1 p.2 (omega (arith, p.3, b.ensures)),
-      link-more-at _ _ _ p.0 x.k x.m b.result p.1 p.2 (omega (arith, p.3, b.ensures)) x.t b.ensures,
+      link_sized _ _ _ p.0 x.k x.m b.result p.1 p.2 (omega (arith, p.3, b.ensures)),
+      link_more_at _ _ _ p.0 x.k x.m b.result p.1 p.2 (omega (arith, p.3, b.ensures)) x.t b.ensures,
     )
 
 pub link-spec : {M : Type 1} → statement M

@@ -7,7 +7,7 @@ use lib.ListN.{length}
 use Rattle.limits.specs.Limits.{blocks, arms}
 use Rattle.cycles.specs.Inward.{Lists}
 use Rattle.cycles.specs.Gathering.{Sorted, none}
-use Rattle.cycles.proofs.GatherLaws.{sorted-old, sorted-new}
+use Rattle.cycles.proofs.GatherLaws.{sorted_old, sorted_new}
 use borrow.Author.Rules.{rules}
 use Rattle.cycles.proofs.sort.Statement.{statement}
 use Rattle.cycles.proofs.sort.Tie as tie
@@ -24,7 +24,7 @@ loop-holds c = (search rules, c.requires.1.1.0, λ f h. none c.requires.1.1.1)
 loop-again : tie.Need-loop-preserved invariant-loop decreases-loop
 loop-again c =
     let l = c.before.before.before.before.before.loop in
-    (search rules, l.invariant.1, λ f h. sorted-old l.i (l.invariant.2 f h) (omega (arith, c.before.entry_of.ensures, c.if1.true)))
+    (search rules, l.invariant.1, λ f h. sorted_old l.i (l.invariant.2 f h) (omega (arith, c.before.entry_of.ensures, c.if1.true)))
 
 collect-requires : tie.Need-collect-requires invariant-loop decreases-loop
 collect-requires c κs =
@@ -36,7 +36,7 @@ collect-requires c κs =
 loop-again-2 : tie.Need-loop-preserved-2 invariant-loop decreases-loop
 loop-again-2 c =
     let l = c.before.before.before.before.before.before.before.loop in
-    (search rules, c.collect.ensures.0, λ f h. sorted-new l.i (l.invariant.2 f h) (omega (arith, c.before.before.before.entry_of.ensures, c.before.before.if1.false)) (c.collect.ensures.1 f h))
+    (search rules, c.collect.ensures.0, λ f h. sorted_new l.i (l.invariant.2 f h) (omega (arith, c.before.before.before.entry_of.ensures, c.before.before.if1.false)) (c.collect.ensures.1 f h))
 
 returns : tie.Need-returns invariant-loop decreases-loop
 returns c =

@@ -5,21 +5,21 @@ use native.Mathlib.Omega.{arith}
 use mathlib.Core.Logic.{⊎_elim}
 use mathlib.Core.Path.{◌≡◌, refl, sym, ◌∙◌}
 use lib.ListN.{get_or}
-use Rattle.forwarding.specs.Steps.{uselessOf, Cleared, clearing, clearsOf}
-use Rattle.forwarding.proofs.ClearSteps.{clear-yes, clear-no}
+use Rattle.forwarding.specs.Steps.{useless_of, Cleared, clearing, clears_of}
+use Rattle.forwarding.proofs.ClearSteps.{clear_yes, clear_no}
 use borrow.Author.Rules.{rules}
 use Rattle.forwarding.proofs.clear.Statement.{statement}
 use Rattle.forwarding.proofs.clear.Tie as tie
 
 abbrev invariant-loop : tie.invariant-loop
 invariant-loop listed onward reached n marks₀ weight₀ count₀ i₀ marks weight count i =
-    (i ≤ n) × (◌≡◌ {A = Cleared} (clearing marks weight count) (clearsOf onward reached listed (clearing marks₀ weight₀ count₀) i))
+    (i ≤ n) × (◌≡◌ {A = Cleared} (clearing marks weight count) (clears_of onward reached listed (clearing marks₀ weight₀ count₀) i))
 
 abbrev decreases-loop : tie.decreases-loop
 decreases-loop listed onward reached n marks₀ weight₀ count₀ i₀ marks weight count i = n - i
 
 loop-holds : tie.Need-loop-init invariant-loop decreases-loop
-unfolding clearsOf
+unfolding clears_of
 loop-holds c = (search rules, refl)
 
 at-block-requires : tie.Need-at-block-requires invariant-loop decreases-loop
@@ -53,16 +53,16 @@ element-write-count : tie.Need-element-write-count invariant-loop decreases-loop
 element-write-count c = omega (arith, c.before.before.before.before.before.before.before.at_block.ensures, c.before.before.before.before.before.before.before.before.before.before.requires.1 c.before.before.before.before.before.before.before.before.before.loop.i c.before.before.before.before.before.before.before.before.loop-test.true)
 
 loop-again : tie.Need-loop-preserved invariant-loop decreases-loop
-unfolding clearsOf
+unfolding clears_of
 loop-again c =
     let l = c.before.before.before.before.before.before.before.loop in
     let x = c.before.before.before.before.before.before.before.before.args in
     let k = c.before.before.before.before.before.at_block.result in
-    let told : c.before.useless.result ≡ uselessOf (get_or x.onward.now k 0) (get_or x.reached.now k 0) (get_or l.marks k 0) = c.before.useless.ensures ∙ rw c.before.before.before.before.at-block2.ensures in
+    let told : c.before.useless.result ≡ useless_of (get_or x.onward.now k 0) (get_or x.reached.now k 0) (get_or l.marks k 0) = c.before.useless.ensures ∙ rw c.before.before.before.before.at-block2.ensures in
     rw (add-one, ← c.before.before.before.before.before.at_block.ensures)
     (⊎_elim
-    (λ w. (search rules, clear-yes x.onward.now x.reached.now l.marks l.weight l.count _ k l.invariant.1 _ _ _ _ (sym told ∙ w.0.taken) w.2.ensures w.3 w.4 w.5))
-    (λ w. (search rules, clear-no x.onward.now x.reached.now l.marks l.weight l.count _ k l.invariant.1 _ _ _ (sym told ∙ w.0.left) w.1 w.2 w.3))
+    (λ w. (search rules, clear_yes x.onward.now x.reached.now l.marks l.weight l.count _ k l.invariant.1 _ _ _ _ (sym told ∙ w.0.taken) w.2.ensures w.3 w.4 w.5))
+    (λ w. (search rules, clear_no x.onward.now x.reached.now l.marks l.weight l.count _ k l.invariant.1 _ _ _ (sym told ∙ w.0.left) w.1 w.2 w.3))
     c.if1.branch)
 
 returns : tie.Need-returns invariant-loop decreases-loop

@@ -2,22 +2,22 @@
 use Prim.Native.Nat.{ℕ}
 use lib.ListN.{length-replicate}
 use Rattle.limits.specs.Limits.{blocks}
-use Rattle.forwarding.proofs.LentLaws.{lent-few, lent_below, lent-firsts, lent-chains, lent-sure, lent-moved, passes_over}
+use Rattle.forwarding.proofs.LentLaws.{lent_few, lent_below, lent_firsts, lent_chains, lent_sure, lent_moved, passes_over}
 use borrow.Author.Rules.{rules}
 use Rattle.forwarding.proofs.forward.Statement.{statement}
 use Rattle.forwarding.proofs.forward.Tie as tie
 
 goals-requires : tie.Need-goals-requires
-goals-requires c κs = let l = c.before.before.before.before.requires in (lent-few l, lent-firsts l, lent-chains l)
+goals-requires c κs = let l = c.before.before.before.before.requires in (lent_few l, lent_firsts l, lent_chains l)
 
 move-arms-requires : tie.Need-move-arms-requires
-move-arms-requires c κs = lent-sure c.before.before.before.before.before.before.before.before.requires
+move-arms-requires c κs = lent_sure c.before.before.before.before.before.before.before.before.requires
 
 reach-all-requires : tie.Need-reach-all-requires
-reach-all-requires c κs = lent-moved c.before.before.before.before.before.before.before.before.before.before.before.before.requires _ _ c.before.before.before.move-arms.ensures.1
+reach-all-requires c κs = lent_moved c.before.before.before.before.before.before.before.before.before.before.before.before.requires _ _ c.before.before.before.move-arms.ensures.1
 
 clear-requires : tie.Need-clear-requires
-clear-requires c κs = let l = c.before.before.before.before.before.before.before.before.before.before.before.before.before.before.before.before.before.before.requires in (lent-few l, lent_below l)
+clear-requires c κs = let l = c.before.before.before.before.before.before.before.before.before.before.before.before.before.before.before.before.before.before.requires in (lent_few l, lent_below l)
 
 returns : tie.Need-returns
 returns c =

@@ -3,21 +3,21 @@ use Prim.Native.Nat.{◌-◌, ◌≤◌}
 use native.Mathlib.Numerals.{add-one}
 use native.Mathlib.Omega.{arith}
 use mathlib.Core.Path.{◌≡◌, refl, ◌∙◌}
-use Rattle.forwarding.specs.Steps.{throughOf, goalsOf}
-use Rattle.forwarding.proofs.StepLaws.{goal-small}
+use Rattle.forwarding.specs.Steps.{through_of, goals_of}
+use Rattle.forwarding.proofs.StepLaws.{goal_small}
 use borrow.Author.Rules.{rules}
 use Rattle.forwarding.proofs.goals.Statement.{statement}
 use Rattle.forwarding.proofs.goals.Tie as tie
 
 abbrev invariant-loop : tie.invariant-loop
 invariant-loop listed ends marks first count to args n onward₀ i₀ onward i =
-    (i ≤ n) × (onward ≡ goalsOf (throughOf ends marks first count to args) listed n onward₀ i)
+    (i ≤ n) × (onward ≡ goals_of (through_of ends marks first count to args) listed n onward₀ i)
 
 abbrev decreases-loop : tie.decreases-loop
 decreases-loop listed ends marks first count to args n onward₀ i₀ onward i = n - i
 
 loop-holds : tie.Need-loop-init invariant-loop decreases-loop
-unfolding goalsOf
+unfolding goals_of
 loop-holds c = (search rules, refl)
 
 goal-requires : tie.Need-goal-requires invariant-loop decreases-loop
@@ -27,7 +27,7 @@ cast-onward : tie.Need-overflow-cast-onward invariant-loop decreases-loop
 cast-onward c =
     let l = c.before.before.before.loop in
     let x = c.before.before.before.before.args in
-    omega (arith, c.goal.ensures, goal-small (throughOf x.ends.now x.marks.now x.first.now x.count.now x.to.now x.args.now) x.n c.before.at_block.result (rw c.before.at_block.ensures (c.before.before.before.before.requires.2 l.i c.before.before.loop-test.true)))
+    omega (arith, c.goal.ensures, goal_small (through_of x.ends.now x.marks.now x.first.now x.count.now x.to.now x.args.now) x.n c.before.at_block.result (rw c.before.at_block.ensures (c.before.before.before.before.requires.2 l.i c.before.before.loop-test.true)))
 
 mul-onward : tie.Need-overflow-mul-onward invariant-loop decreases-loop
 mul-onward c =
@@ -40,7 +40,7 @@ element-write-onward c =
     omega (arith, c.before.at_block.ensures, (c.before.before.before.before.requires.2 l.i c.before.before.loop-test.true).0)
 
 loop-again : tie.Need-loop-preserved invariant-loop decreases-loop
-unfolding goalsOf
+unfolding goals_of
 loop-again c = let l = c.before.before.before.loop in (search rules, rw (add-one, l.invariant.1, c.goal.ensures, c.before.at_block.ensures))
 
 returns : tie.Need-returns invariant-loop decreases-loop

@@ -3,13 +3,13 @@ use Prim.Native.Nat.{◌+◌, ◌≤◌}
 use native.Mathlib.Omega.{arith}
 use mathlib.Core.Path.{◌≡◌, refl, sym, ◌∙◌}
 use Rattle.limits.specs.Limits.{arms}
-use Rattle.forwarding.specs.Steps.{goesTo}
-use Rattle.forwarding.proofs.StepLaws.{goes-hit, goes_on, goes_end}
+use Rattle.forwarding.specs.Steps.{goes_to}
+use Rattle.forwarding.proofs.StepLaws.{goes_hit, goes_on, goes_end}
 use Rattle.forwarding.proofs.goes_to.Statement.{statement}
 use Rattle.forwarding.proofs.goes_to.Tie as tie
 
 abbrev invariant-loop : tie.invariant-loop
-invariant-loop to first count m q₀ left₀ q left = (q + left ≤ arms) × (goesTo to q left m ≡ goesTo to first count m)
+invariant-loop to first count m q₀ left₀ q left = (q + left ≤ arms) × (goes_to to q left m ≡ goes_to to first count m)
 
 abbrev decreases-loop : tie.decreases-loop
 decreases-loop to first count m q₀ left₀ q left = left
@@ -21,7 +21,7 @@ at-arm-requires : tie.Need-at-arm-requires invariant-loop decreases-loop
 at-arm-requires c κs = omega arith
 
 returns : tie.Need-returns invariant-loop decreases-loop
-returns c = let l = c.before.before.before.loop in let x = c.before.before.before.before.args in goes-hit x.to.now l.q l.left x.m c.before.before.loop-test.true (sym c.before.at-arm.ensures ∙ c.if1.true) ∙ l.invariant.1
+returns c = let l = c.before.before.before.loop in let x = c.before.before.before.before.args in goes_hit x.to.now l.q l.left x.m c.before.before.loop-test.true (sym c.before.at-arm.ensures ∙ c.if1.true) ∙ l.invariant.1
 
 add-q : tie.Need-overflow-add-q invariant-loop decreases-loop
 add-q c = omega arith

@@ -1,11 +1,11 @@
 -- `forwarding::is_named` meets its contract: bit 4.
 use mathlib.Core.Path.{refl}
-use Rattle.rules.specs.Graph.{bit, isNamed}
+use Rattle.rules.specs.Graph.{bit, is_named}
 use Rattle.forwarding.proofs.is_named.Statement.{statement}
 use Rattle.forwarding.proofs.is_named.Tie as tie
 
 returns : tie.Need-returns
-unfolding isNamed bit
+unfolding is_named bit
 returns c = refl
 
 pub is-named-spec : {M : Type 1} → statement M

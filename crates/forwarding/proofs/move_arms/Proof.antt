@@ -4,21 +4,21 @@ use native.Mathlib.Numerals.{add-one}
 use native.Mathlib.Omega.{arith}
 use mathlib.Core.Path.{◌≡◌, refl, ap, ◌∙◌}
 use lib.ListN.{get_or}
-use Rattle.forwarding.specs.Steps.{turnsOf, movedOf}
-use Rattle.forwarding.proofs.StepLaws.{turns-small, moved-most, move-most}
+use Rattle.forwarding.specs.Steps.{turns_of, moved_of}
+use Rattle.forwarding.proofs.StepLaws.{turns_small, moved_most, move_most}
 use borrow.Author.Rules.{rules}
 use Rattle.forwarding.proofs.move_arms.Statement.{statement}
 use Rattle.forwarding.proofs.move_arms.Tie as tie
 
 abbrev invariant-loop : tie.invariant-loop
 invariant-loop listed ends first count onward n to₀ moved₀ i₀ to moved i =
-    (i ≤ n) × (moved ≡ movedOf onward listed ends first count to₀ i) × (to ≡ turnsOf onward listed ends first count to₀ i)
+    (i ≤ n) × (moved ≡ moved_of onward listed ends first count to₀ i) × (to ≡ turns_of onward listed ends first count to₀ i)
 
 abbrev decreases-loop : tie.decreases-loop
 decreases-loop listed ends first count onward n to₀ moved₀ i₀ to moved i = n - i
 
 loop-holds : tie.Need-loop-init invariant-loop decreases-loop
-unfolding turnsOf movedOf
+unfolding turns_of moved_of
 loop-holds c = (search rules, refl, refl)
 
 at-block-requires : tie.Need-at-block-requires invariant-loop decreases-loop
@@ -38,7 +38,7 @@ move-block-requires c κs =
     let l = c.before.before.before.before.before.before.loop in
     let x = c.before.before.before.before.before.before.before.args in
     rw (c.before.before.at-block3.ensures, c.before.before.before.at-block2.ensures, c.before.before.before.before.at_block.ensures, l.invariant.2)
-    (c.before.before.before.before.before.before.before.requires.fits (get_or x.listed.now l.i 0), λ j h. turns-small x.onward.now x.listed.now x.ends.now x.first.now x.count.now x.to.now l.i (get_or x.first.now (get_or x.listed.now l.i 0) 0 + j) (c.before.before.before.before.before.before.before.requires.leads l.i c.before.before.before.before.before.loop-test.true j h))
+    (c.before.before.before.before.before.before.before.requires.fits (get_or x.listed.now l.i 0), λ j h. turns_small x.onward.now x.listed.now x.ends.now x.first.now x.count.now x.to.now l.i (get_or x.first.now (get_or x.listed.now l.i 0) 0 + j) (c.before.before.before.before.before.before.before.requires.leads l.i c.before.before.before.before.before.loop-test.true j h))
 
 add-moved : tie.Need-overflow-add-moved invariant-loop decreases-loop
 add-moved c =
@@ -48,16 +48,16 @@ add-moved c =
     omega (
       arith,
       l.invariant.1,
-      moved-most x.onward.now x.listed.now x.ends.now x.first.now x.count.now x.to.now c.before.before.before.before.before.before.before.before.requires.fits l.i,
+      moved_most x.onward.now x.listed.now x.ends.now x.first.now x.count.now x.to.now c.before.before.before.before.before.before.before.before.requires.fits l.i,
       c.move-block.ensures.0,
-      move-most x.onward.now (get_or x.ends.now k 0) c.before.before.before.before.at-block2.result c.before.before.before.at-block3.result l.to,
+      move_most x.onward.now (get_or x.ends.now k 0) c.before.before.before.before.at-block2.result c.before.before.before.at-block3.result l.to,
       c.before.before.before.at-block3.ensures,
       c.before.before.before.before.before.before.before.before.requires.fits k,
       c.before.before.before.before.before.before.before.before.requires.few,
     )
 
 loop-again : tie.Need-loop-preserved invariant-loop decreases-loop
-unfolding turnsOf movedOf
+unfolding turns_of moved_of
 loop-again c =
     let l = c.before.before.before.before.before.before.before.loop in (
       search rules,

@@ -4,19 +4,19 @@ use native.Mathlib.Numerals.{add-one}
 use native.Mathlib.Omega.{arith}
 use mathlib.Core.Path.{◌≡◌, refl, ◌∙◌}
 use lib.ListN.{get_or}
-use Rattle.forwarding.specs.Steps.{reachedOf}
+use Rattle.forwarding.specs.Steps.{reached_of}
 use borrow.Author.Rules.{rules}
 use Rattle.forwarding.proofs.reach_all.Statement.{statement}
 use Rattle.forwarding.proofs.reach_all.Tie as tie
 
 abbrev invariant-loop : tie.invariant-loop
-invariant-loop listed first count to n reached₀ i₀ reached i = (i ≤ n) × (reached ≡ reachedOf listed first count to reached₀ i)
+invariant-loop listed first count to n reached₀ i₀ reached i = (i ≤ n) × (reached ≡ reached_of listed first count to reached₀ i)
 
 abbrev decreases-loop : tie.decreases-loop
 decreases-loop listed first count to n reached₀ i₀ reached i = n - i
 
 loop-holds : tie.Need-loop-init invariant-loop decreases-loop
-unfolding reachedOf
+unfolding reached_of
 loop-holds c = (search rules, refl)
 
 at-block-requires : tie.Need-at-block-requires invariant-loop decreases-loop
@@ -35,7 +35,7 @@ reach-requires c κs =
     rw (c.before.at-block3.ensures, c.before.before.at-block2.ensures, c.before.before.before.at_block.ensures) (c.before.before.before.before.before.before.requires.fits (get_or x.listed.now l.i 0), c.before.before.before.before.before.before.requires.leads l.i c.before.before.before.before.loop-test.true)
 
 loop-again : tie.Need-loop-preserved invariant-loop decreases-loop
-unfolding reachedOf
+unfolding reached_of
 loop-again c = let l = c.before.before.before.before.before.before.loop in (search rules, c.reach.ensures ∙ rw (add-one, l.invariant.1, c.before.before.at-block3.ensures, c.before.before.before.at-block2.ensures, c.before.before.before.before.at_block.ensures))
 
 returns : tie.Need-returns invariant-loop decreases-loop

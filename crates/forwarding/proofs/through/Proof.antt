@@ -1,6 +1,6 @@
 -- `forwarding::through` meets its contract: the block is asked by what the tables have for it.
 use native.Mathlib.Omega.{arith}
-use Rattle.forwarding.proofs.StepLaws.{through-some, through-none}
+use Rattle.forwarding.proofs.StepLaws.{through_some, through_none}
 use borrow.Author.Rules.{rules}
 use Rattle.forwarding.proofs.through.Statement.{statement}
 use Rattle.forwarding.proofs.through.Tie as tie
@@ -14,12 +14,12 @@ at-arm-requires c κs = let x = c.before.before.before.before.before.before.befo
 returns : tie.Need-returns
 returns c =
     let x = c.before.before.before.before.before.before.before.before.args in
-    through-some x.ends.now x.marks.now x.first.now x.count.now x.to.now x.args.now x.n _ _ _ _ c.before.before.before.before.before.before.before.at_block.ensures c.before.before.before.before.at-block2.ensures c.before.before.passes.ensures c.before.if1.true c.at-arm.ensures
+    through_some x.ends.now x.marks.now x.first.now x.count.now x.to.now x.args.now x.n _ _ _ _ c.before.before.before.before.before.before.before.at_block.ensures c.before.before.before.before.at-block2.ensures c.before.before.passes.ensures c.before.if1.true c.at-arm.ensures
 
 returns-2 : tie.Need-returns-2
 returns-2 c =
     let x = c.before.before.before.before.before.before.before.args in
-    through-none x.ends.now x.marks.now x.first.now x.count.now x.to.now x.args.now x.n _ _ 0 _ c.before.before.before.before.before.before.at_block.ensures c.before.before.before.at-block2.ensures c.before.passes.ensures c.if1.false
+    through_none x.ends.now x.marks.now x.first.now x.count.now x.to.now x.args.now x.n _ _ 0 _ c.before.before.before.before.before.before.at_block.ensures c.before.before.before.at-block2.ensures c.before.passes.ensures c.if1.false
 
 pub through-spec : {M : Type 1} → statement M
 through-spec =

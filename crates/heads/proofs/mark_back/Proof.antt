@@ -5,7 +5,7 @@ use mathlib.Core.Path.{◌≡◌, sym, ap, ◌∙◌, subst}
 use lib.ListN.{length, get_or}
 use Rattle.limits.specs.Limits.{blocks}
 use Rattle.marks.specs.Sets.{room, member}
-use Rattle.heads.specs.Heading.{tables, backTo}
+use Rattle.heads.specs.Heading.{tables, back_to}
 use Rattle.heads.proofs.MarkLaws.{back_none, back_more}
 use borrow.Author.Rules.{rules}
 use Rattle.heads.proofs.mark_back.Statement.{statement}
@@ -13,7 +13,7 @@ use Rattle.heads.proofs.mark_back.Tie as tie
 
 abbrev invariant-loop : tie.invariant-loop
 invariant-loop listed place first count to piece n back₀ i₀ back i =
-    (i ≤ n) × (length back ≡ room) × ((m : ℕ) → member back m ≡ backTo (tables listed place first count to piece) i m)
+    (i ≤ n) × (length back ≡ room) × ((m : ℕ) → member back m ≡ back_to (tables listed place first count to piece) i m)
 
 abbrev decreases-loop : tie.decreases-loop
 decreases-loop listed place first count to piece n back₀ i₀ back i = n - i
@@ -33,7 +33,7 @@ mark-arms-requires c κs =
     let m = get_or x.listed.now l.i 0 in
     let eq = c.before.before.entry_of.ensures in
     let ek = c.before.entry-of2.ensures in (
-      (p.to-sized, p.place-sized, p.piece-sized, l.invariant.1, omega (arith, eq, ek, p.fits m)),
+      (p.to_sized, p.place_sized, p.piece_sized, l.invariant.1, omega (arith, eq, ek, p.fits m)),
       λ j k. subst (λ (z : ℕ). get_or x.to.now (z + j) 0 < blocks) (sym eq) (p.goes l.i h j (omega (arith, k, ek))),
     )
 
@@ -50,7 +50,7 @@ returns c =
     let x = c.before.before.args in
     let l = c.before.loop in
     let e : l.i ≡ x.n = omega (arith, l.invariant.0) in
-    (l.invariant.1, λ m. l.invariant.2 m ∙ ap (λ (i : ℕ). backTo (tables x.listed.now x.place.now x.first.now x.count.now x.to.now x.piece.now) i m) e)
+    (l.invariant.1, λ m. l.invariant.2 m ∙ ap (λ (i : ℕ). back_to (tables x.listed.now x.place.now x.first.now x.count.now x.to.now x.piece.now) i m) e)
 
 pub mark-back-spec : {M : Type 1} → statement M
 mark-back-spec =

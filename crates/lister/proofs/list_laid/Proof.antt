@@ -1,24 +1,24 @@
 -- `lister::list_laid` meets its contract: the heads, the loops, and the lines.
-use Rattle.layout.proofs.WriteLaws.{can-head}
-use Rattle.lister.proofs.ListLaws.{can-cycle, can-loop, can-print, printed}
+use Rattle.layout.proofs.WriteLaws.{can_head}
+use Rattle.lister.proofs.ListLaws.{can_cycle, can_loop, can_print, printed}
 use borrow.Author.Rules.{rules}
 use Rattle.lister.proofs.list_laid.Statement.{statement}
 use Rattle.lister.proofs.list_laid.Tie as tie
 
 heads-requires : tie.Need-heads-requires
-heads-requires c κs = let w = c.before.before.requires.0.laid in can-head w.placed w.fit
+heads-requires c κs = let w = c.before.before.requires.0.laid in can_head w.placed w.fit
 
 cycles-requires : tie.Need-cycles-requires
-cycles-requires c κs = let w = c.before.before.before.requires.0.laid in can-cycle w.placed w.fit
+cycles-requires c κs = let w = c.before.before.before.requires.0.laid in can_cycle w.placed w.fit
 
 looped-requires : tie.Need-looped-requires
-looped-requires c κs = let w = c.before.before.before.before.before.requires.0.laid in can-loop w.placed w.fit _ c.before.cycles.ensures
+looped-requires c κs = let w = c.before.before.before.before.before.requires.0.laid in can_loop w.placed w.fit _ c.before.cycles.ensures
 
 write-requires : tie.Need-write-requires
 write-requires c κs =
     let d = c.before.before.before.before.before.before.before.before.before.requires in
     let w = d.0.laid in
-    (can-print w.placed w.fit _ c.before.before.before.before.before.cycles.ensures _ _ c.before.before.before.looped.ensures c.before.before.before.before.before.before.heads.ensures.0, d.1)
+    (can_print w.placed w.fit _ c.before.before.before.before.before.cycles.ensures _ _ c.before.before.before.looped.ensures c.before.before.before.before.before.before.heads.ensures.0, d.1)
 
 returns : tie.Need-returns
 returns c ends args heft reorder g h f =

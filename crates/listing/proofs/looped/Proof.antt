@@ -2,14 +2,14 @@
 use Prim.Native.Nat.{ℕ, ◌-◌, ◌≤◌}
 use native.Mathlib.Omega.{arith}
 use mathlib.Core.Path.{◌≡◌, sym, ◌∙◌, subst}
-use Rattle.listing.specs.Loops.{mateTo}
-use Rattle.listing.proofs.LoopLaws.{Chosen, chosen_none, chosen-yes, chosen-no, loops-of}
+use Rattle.listing.specs.Loops.{mate_to}
+use Rattle.listing.proofs.LoopLaws.{Chosen, chosen_none, chosen_yes, chosen_no, loops_of}
 use borrow.Author.Rules.{rules}
 use Rattle.listing.proofs.looped.Statement.{statement}
 use Rattle.listing.proofs.looped.Tie as tie
 
 abbrev invariant-loop : tie.invariant-loop
-invariant-loop listed piece n set₀ i₀ set i = (i ≤ n) × Chosen listed (mateTo listed piece n) i set
+invariant-loop listed piece n set₀ i₀ set i = (i ≤ n) × Chosen listed (mate_to listed piece n) i set
 
 abbrev decreases-loop : tie.decreases-loop
 decreases-loop listed piece n set₀ i₀ set i = n - i
@@ -17,7 +17,7 @@ decreases-loop listed piece n set₀ i₀ set i = n - i
 loop-holds : tie.Need-loop-init invariant-loop decreases-loop
 loop-holds c =
     let x = c.before.args in
-    (search rules, chosen_none x.listed.now (mateTo x.listed.now x.piece.now x.n) c.none.result c.none.ensures)
+    (search rules, chosen_none x.listed.now (mate_to x.listed.now x.piece.now x.n) c.none.result c.none.ensures)
 
 mark-requires : tie.Need-mark-requires invariant-loop decreases-loop
 mark-requires c κs =
@@ -30,7 +30,7 @@ loop-again c =
     let x = c.before.before.before.before.before.before.before.before.args in
     let l = c.before.before.before.before.before.before.loop in (
       search rules,
-      chosen-yes x.listed.now (mateTo x.listed.now x.piece.now x.n) l.i l.set _ l.invariant.1 c.mark.ensures
+      chosen_yes x.listed.now (mate_to x.listed.now x.piece.now x.n) l.i l.set _ l.invariant.1 c.mark.ensures
           (sym c.before.before.before.has-mate.ensures ∙ c.before.before.if1.true),
     )
 
@@ -38,14 +38,14 @@ loop-again-2 : tie.Need-loop-preserved-2 invariant-loop decreases-loop
 loop-again-2 c =
     let x = c.before.before.before.before.before.before.args in
     let l = c.before.before.before.before.loop in
-    (search rules, chosen-no x.listed.now (mateTo x.listed.now x.piece.now x.n) l.i l.set l.invariant.1 (sym c.before.has-mate.ensures ∙ c.if1.false))
+    (search rules, chosen_no x.listed.now (mate_to x.listed.now x.piece.now x.n) l.i l.set l.invariant.1 (sym c.before.has-mate.ensures ∙ c.if1.false))
 
 returns : tie.Need-returns invariant-loop decreases-loop
 returns c =
     let x = c.before.before.before.args in
     let l = c.before.loop in
     let e : l.i ≡ x.n = omega arith in
-    loops-of x.listed.now x.piece.now x.n l.set (subst (λ (k : ℕ). Chosen x.listed.now (mateTo x.listed.now x.piece.now x.n) k l.set) e l.invariant.1)
+    loops_of x.listed.now x.piece.now x.n l.set (subst (λ (k : ℕ). Chosen x.listed.now (mate_to x.listed.now x.piece.now x.n) k l.set) e l.invariant.1)
 
 pub looped-spec : {M : Type 1} → statement M
 looped-spec =

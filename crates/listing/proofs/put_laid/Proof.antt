@@ -7,7 +7,7 @@ use mathlib.Core.List.{[], ◌∷◌, ◌++◌}
 use lib.ListN.{length}
 use Rattle.rules.specs.Listing.{space, dash, letter}
 use Rattle.listing.proofs.PutLaws.{put_then, put_same}
-use Rattle.listing.proofs.LineLaws.{letter-long, back_is, back_long}
+use Rattle.listing.proofs.LineLaws.{letter_long, back_is, back_long}
 use borrow.Author.Rules.{rules}
 use Rattle.listing.proofs.put_laid.Statement.{statement}
 use Rattle.listing.proofs.put_laid.Tie as tie
@@ -22,19 +22,19 @@ put-letter-requires-2 : tie.Need-put-letter-requires-2
 put-letter-requires-2 c κs =
     let s = c.before.before.before.before.before.before.before in
     let x = s.args in
-    omega (arith, s.requires, back_long x.marks x.exit x.head x.in-loop, letter-long c.before.before.before.before.is-cold.result 67 87)
+    omega (arith, s.requires, back_long x.marks x.exit x.head x.in-loop, letter_long c.before.before.before.before.is-cold.result 67 87)
 
 put-letter-requires-3 : tie.Need-put-letter-requires-3
 put-letter-requires-3 c κs =
     let s = c.before.before.before.before.before.before.before.before.before.before.before in
     let x = s.args in
-    omega (arith, s.requires, back_long x.marks x.exit x.head x.in-loop, letter-long c.before.before.before.before.before.before.before.before.is-cold.result 67 87, letter-long x.head 72 dash)
+    omega (arith, s.requires, back_long x.marks x.exit x.head x.in-loop, letter_long c.before.before.before.before.before.before.before.before.is-cold.result 67 87, letter_long x.head 72 dash)
 
 put-number-requires : tie.Need-put-number-requires
 put-number-requires c κs =
     let s = c.before.before.before.before.before.before.before.before.before.before.before.before.before.before.before in
     let x = s.args in
-    omega (arith, s.requires, back_long x.marks x.exit x.head x.in-loop, letter-long c.before.before.before.before.before.before.before.before.before.before.before.before.is-cold.result 67 87, letter-long x.head 72 dash, letter-long x.in-loop 76 dash)
+    omega (arith, s.requires, back_long x.marks x.exit x.head x.in-loop, letter_long c.before.before.before.before.before.before.before.before.before.before.before.before.is-cold.result 67 87, letter_long x.head 72 dash, letter_long x.in-loop 76 dash)
 
 returns : tie.Need-returns
 returns c =

@@ -3,23 +3,23 @@ use Prim.Native.Nat.{◌≤◌}
 use native.Mathlib.Omega.{arith}
 use lib.ListN.{length}
 use Rattle.rules.specs.Listing.{space}
-use Rattle.listing.proofs.DigitLaws.{decimal-fits}
+use Rattle.listing.proofs.DigitLaws.{decimal_fits}
 use Rattle.listing.proofs.PutLaws.{put_then, put_same, put_front}
-use Rattle.listing.proofs.LineLaws.{number-long, refusal_is}
+use Rattle.listing.proofs.LineLaws.{number_long, refusal_is}
 use borrow.Author.Rules.{rules}
 use Rattle.listing.proofs.refused.Statement.{statement}
 use Rattle.listing.proofs.refused.Tie as tie
 
 put-number-requires : tie.Need-put-number-requires
-put-number-requires c κs = let s = c.before.before.before.before.before.before.before in omega (arith, s.requires, decimal-fits s.args.number)
+put-number-requires c κs = let s = c.before.before.before.before.before.before.before in omega (arith, s.requires, decimal_fits s.args.number)
 
 put-word-requires-2 : tie.Need-put-word-requires-2
-put-word-requires-2 c κs = let s = c.before.before.before.before.before.before.before.before.before.before.before.before in omega (arith, s.requires, decimal-fits s.args.number, number-long s.args.number space)
+put-word-requires-2 c κs = let s = c.before.before.before.before.before.before.before.before.before.before.before.before in omega (arith, s.requires, decimal_fits s.args.number, number_long s.args.number space)
 
 put-number-requires-2 : tie.Need-put-number-requires-2
 put-number-requires-2 c κs =
     let s = c.before.before.before.before.before.before.before.before.before.before.before.before.before.before.before.before in
-    omega (arith, s.requires, decimal-fits s.args.number, number-long s.args.number space, decimal-fits s.args.place)
+    omega (arith, s.requires, decimal_fits s.args.number, number_long s.args.number space, decimal_fits s.args.place)
 
 returns : tie.Need-returns
 returns c =

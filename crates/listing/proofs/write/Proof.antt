@@ -4,7 +4,7 @@ use native.Mathlib.Omega.{arith}
 use lib.ListN.{length}
 use Rattle.listing.specs.Lines.{shown}
 use Rattle.listing.proofs.PutLaws.{put_then}
-use Rattle.listing.proofs.LineLaws.{split-fits}
+use Rattle.listing.proofs.LineLaws.{split_fits}
 use Rattle.listing.proofs.ListingLaws.{prints}
 use borrow.Author.Rules.{rules}
 use Rattle.listing.proofs.write.Statement.{statement}
@@ -17,7 +17,7 @@ put-split-requires : tie.Need-put-split-requires
 put-split-requires c κs =
     let s = c.before.before.before.before.before.before in
     let p = c.before.before.before.put-places in
-    omega (arith, s.requires.1, s.requires.0.few, p.ensures.0, split-fits s.args.split)
+    omega (arith, s.requires.1, s.requires.0.few, p.ensures.0, split_fits s.args.split)
 
 returns : tie.Need-returns
 returns c =

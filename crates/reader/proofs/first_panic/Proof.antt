@@ -3,14 +3,14 @@ use Prim.Native.Nat.{ℕ, ◌-◌, ◌≤◌, ◌<◌}
 use native.Mathlib.Omega.{arith}
 use mathlib.Core.Path.{◌≡◌, sym, ◌∙◌}
 use mathlib.Core.Bool.{false}
-use Rattle.lists.proofs.Choices.{split-lt}
-use Rattle.reader.specs.Reads.{panicsAt}
+use Rattle.lists.proofs.Choices.{split_lt}
+use Rattle.reader.specs.Reads.{panics_at}
 use borrow.Author.Rules.{rules}
 use Rattle.reader.proofs.first_panic.Statement.{statement}
 use Rattle.reader.proofs.first_panic.Tie as tie
 
 abbrev invariant-loop : tie.invariant-loop
-invariant-loop listed ends count n i₀ i = (i ≤ n) × ((j : ℕ) → j < i → panicsAt listed ends count j ≡ false)
+invariant-loop listed ends count n i₀ i = (i ≤ n) × ((j : ℕ) → j < i → panics_at listed ends count j ≡ false)
 
 abbrev decreases-loop : tie.decreases-loop
 decreases-loop listed ends count n i₀ i = n - i
@@ -37,7 +37,7 @@ loop-again : tie.Need-loop-preserved invariant-loop decreases-loop
 loop-again c =
     let l = c.before.before.before.before.before.before.loop in
     let x = c.before.before.before.before.before.before.before.args in
-    (search rules, λ j h. split-lt j l.i (λ k. l.invariant.1 j k) (λ k. let e : j ≡ l.i = omega (arith, h) in rw e (sym (c.before.too_many.ensures ∙ rw (c.before.before.before.byte_of.ensures, c.before.before.entry_of.ensures)) ∙ c.if1.false)))
+    (search rules, λ j h. split_lt j l.i (λ k. l.invariant.1 j k) (λ k. let e : j ≡ l.i = omega (arith, h) in rw e (sym (c.before.too_many.ensures ∙ rw (c.before.before.before.byte_of.ensures, c.before.before.entry_of.ensures)) ∙ c.if1.false)))
 
 returns-2 : tie.Need-returns-2 invariant-loop decreases-loop
 returns-2 c =

@@ -1,6 +1,6 @@
 -- `reader::read_records` meets its contract: the three parts, one after the other.
 use native.Mathlib.Omega.{arith}
-use Rattle.reader.proofs.ReadLaws.{refuses, few-blocks, blocks-refused, arms-refused, panic-refused, reads_all}
+use Rattle.reader.proofs.ReadLaws.{refuses, few_blocks, blocks_refused, arms_refused, panic_refused, reads_all}
 use borrow.Author.Rules.{rules}
 use Rattle.reader.proofs.read_records.Statement.{statement}
 use Rattle.reader.proofs.read_records.Tie as tie
@@ -9,7 +9,7 @@ returns : tie.Need-returns
 returns c =
     let s = c.before.before.before.before.before.before.before.before.before.before.args.s.now in
     let f = c.before.before.before.read-blocks in
-    refuses s _ _ _ _ _ c.refused.ensures (blocks-refused s c.before.before.before.before.before.before.before.before.before.before.requires.0.0 c.before.before.before.before.before.before.before.before.before.before.requires.0.1 _ f.result f.ensures c.before.if1.true) c.before.if1.true
+    refuses s _ _ _ _ _ c.refused.ensures (blocks_refused s c.before.before.before.before.before.before.before.before.before.before.requires.0.0 c.before.before.before.before.before.before.before.before.before.before.requires.0.1 _ f.result f.ensures c.before.if1.true) c.before.if1.true
 
 read-arms-requires : tie.Need-read-arms-requires
 read-arms-requires c κs =
@@ -26,13 +26,13 @@ returns-2 c =
     let s = c.before.before.before.before.before.before.before.before.before.before.before.before.before.before.before.before.before.before.before.before.before.args.s.now in
     let f = c.before.before.before.before.before.before.before.before.before.before.before.before.before.before.read-blocks in
     let r = c.before.before.before.before.read-arms in
-    refuses s _ _ _ _ _ c.refused2.ensures (arms-refused s c.before.before.before.before.before.before.before.before.before.before.before.before.before.before.before.before.before.before.before.before.before.requires.0.0 c.before.before.before.before.before.before.before.before.before.before.before.before.before.before.before.before.before.before.before.before.before.requires.0.1 _ f.result f.ensures c.before.before.before.before.before.before.before.before.before.before.before.before.if1.false _ r.result r.ensures.1 c.before.before.if2.true) c.before.before.if2.true
+    refuses s _ _ _ _ _ c.refused2.ensures (arms_refused s c.before.before.before.before.before.before.before.before.before.before.before.before.before.before.before.before.before.before.before.before.before.requires.0.0 c.before.before.before.before.before.before.before.before.before.before.before.before.before.before.before.before.before.before.before.before.before.requires.0.1 _ f.result f.ensures c.before.before.before.before.before.before.before.before.before.before.before.before.if1.false _ r.result r.ensures.1 c.before.before.if2.true) c.before.before.if2.true
 
 first-panic-requires : tie.Need-first-panic-requires
 first-panic-requires c κs =
     let f = c.before.before.before.before.before.before.before.before.before.before.before.before.before.before.before.read-blocks in
     let h = f.ensures.held c.before.before.before.before.before.before.before.before.before.before.before.before.before.if1.false in
-    (few-blocks _ c.before.before.before.before.before.before.before.before.before.before.before.before.before.before.before.before.before.before.before.before.before.before.requires.0.0 c.before.before.before.before.before.before.before.before.before.before.before.before.before.before.before.before.before.before.before.before.before.before.requires.0.1 _ f.result f.ensures c.before.before.before.before.before.before.before.before.before.before.before.before.before.if1.false, h.sized.listed, h.sized.ends, c.before.before.before.before.before.read-arms.ensures.0.0.count)
+    (few_blocks _ c.before.before.before.before.before.before.before.before.before.before.before.before.before.before.before.before.before.before.before.before.before.before.requires.0.0 c.before.before.before.before.before.before.before.before.before.before.before.before.before.before.before.before.before.before.before.before.before.before.requires.0.1 _ f.result f.ensures c.before.before.before.before.before.before.before.before.before.before.before.before.before.if1.false, h.sized.listed, h.sized.ends, c.before.before.before.before.before.read-arms.ensures.0.0.count)
 
 returns-3 : tie.Need-returns-3
 returns-3 c =
@@ -40,7 +40,7 @@ returns-3 c =
     let f = c.before.before.before.before.before.before.before.before.before.before.before.before.before.before.before.before.before.before.read-blocks in
     let r = c.before.before.before.before.before.before.before.before.read-arms in
     refuses s _ _ _ _ _ c.refused3.ensures
-    (panic-refused s c.before.before.before.before.before.before.before.before.before.before.before.before.before.before.before.before.before.before.before.before.before.before.before.before.before.requires.0.0 c.before.before.before.before.before.before.before.before.before.before.before.before.before.before.before.before.before.before.before.before.before.before.before.before.before.requires.0.1 _ f.result f.ensures c.before.before.before.before.before.before.before.before.before.before.before.before.before.before.before.before.if1.false _ r.result r.ensures.1 c.before.before.before.before.before.before.if2.false r.ensures.0.0 r.ensures.0.1 c.before.before.first-panic.result c.before.before.first-panic.ensures c.before.if3.true)
+    (panic_refused s c.before.before.before.before.before.before.before.before.before.before.before.before.before.before.before.before.before.before.before.before.before.before.before.before.before.requires.0.0 c.before.before.before.before.before.before.before.before.before.before.before.before.before.before.before.before.before.before.before.before.before.before.before.before.before.requires.0.1 _ f.result f.ensures c.before.before.before.before.before.before.before.before.before.before.before.before.before.before.before.before.if1.false _ r.result r.ensures.1 c.before.before.before.before.before.before.if2.false r.ensures.0.0 r.ensures.0.1 c.before.before.first-panic.result c.before.before.first-panic.ensures c.before.if3.true)
     (λ z. omega (arith, z))
 
 returns-4 : tie.Need-returns-4

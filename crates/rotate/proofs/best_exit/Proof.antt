@@ -5,10 +5,10 @@ use mathlib.Core.Path.{◌≡◌, refl, sym, ap, ◌∙◌}
 use mathlib.Core.List.{List}
 use mathlib.Core.Option.{none}
 use Rattle.records.specs.declared.Arms.{Arms}
-use Rattle.records.specs.Tables.{armTables}
+use Rattle.records.specs.Tables.{arm_tables}
 use Rattle.marks.specs.Sets.{member}
 use Rattle.rotate.specs.Turning.{way_of, liked}
-use Rattle.rotate.proofs.OutLaws.{left, left_step, left-start, left_end}
+use Rattle.rotate.proofs.OutLaws.{left, left_step, left_start, left_end}
 use borrow.Author.Rules.{rules}
 use Rattle.rotate.proofs.best_exit.Statement.{statement}
 use Rattle.rotate.proofs.best_exit.Tie as tie
@@ -16,7 +16,7 @@ use Rattle.rotate.proofs.best_exit.Tie as tie
 abbrev invariant-loop : tie.invariant-loop
 invariant-loop first count to heft seen starts inside order p e found₀ i₀ found i =
     (p ≤ i) × (i ≤ e)
-    × ((args : List ℕ) → let a = armTables first count to args heft in
+    × ((args : List ℕ) → let a = arm_tables first count to args heft in
     left a (liked seen starts) (member inside) order p e (way_of found) i ≡ left a (liked seen starts) (member inside) order p e none p)
 
 abbrev decreases-loop : tie.decreases-loop
@@ -36,7 +36,7 @@ loop-again c =
       omega arith,
       omega arith,
       λ args.
-          left_step (armTables x.first.now x.count.now x.to.now args x.heft.now) (liked x.seen.now x.starts.now) (member x.inside.now) x.order.now x.p x.e (way_of l.found) _ l.i
+          left_step (arm_tables x.first.now x.count.now x.to.now args x.heft.now) (liked x.seen.now x.starts.now) (member x.inside.now) x.order.now x.p x.e (way_of l.found) _ l.i
           l.invariant.0 c.before.before.loop-test.true (omega arith) (c.exits-at.ensures args)
           ∙ l.invariant.2 args,
     )
@@ -46,11 +46,11 @@ returns c =
     let x = c.before.before.args in
     let l = c.before.loop in
     let q : l.i ≡ x.e = omega (arith, l.invariant.0, l.invariant.1) in λ args.
-    let a : Arms = armTables x.first.now x.count.now x.to.now args x.heft.now in
+    let a : Arms = arm_tables x.first.now x.count.now x.to.now args x.heft.now in
     sym (ap (left a (liked x.seen.now x.starts.now) (member x.inside.now) x.order.now x.p x.e (way_of l.found)) q
     ∙ left_end a (liked x.seen.now x.starts.now) (member x.inside.now) x.order.now x.p x.e (way_of l.found))
     ∙ l.invariant.2 args
-    ∙ left-start a (liked x.seen.now x.starts.now) (member x.inside.now) x.order.now x.p x.e none
+    ∙ left_start a (liked x.seen.now x.starts.now) (member x.inside.now) x.order.now x.p x.e none
 
 pub best-exit-spec : {M : Type 1} → statement M
 best-exit-spec =

@@ -6,7 +6,7 @@ use lib.ListN.{length}
 use lib.Seq.{slice}
 use Rattle.marks.specs.Sets.{room}
 use Rattle.flow.specs.Lent.{Marks}
-use Rattle.rotate.proofs.PlaceLaws.{marks-start, marks-more}
+use Rattle.rotate.proofs.PlaceLaws.{marks_start, marks_more}
 use borrow.Author.Rules.{rules}
 use Rattle.rotate.proofs.inside_of.Statement.{statement}
 use Rattle.rotate.proofs.inside_of.Tie as tie
@@ -20,7 +20,7 @@ decreases-loop order p e inside₀ i₀ inside i = e - i
 loop-holds : tie.Need-loop-init invariant-loop decreases-loop
 loop-holds c =
     let x = c.before.args in
-    (search rules, search rules, c.none.ensures.0, marks-start x.order.now _ x.p c.none.ensures.1)
+    (search rules, search rules, c.none.ensures.0, marks_start x.order.now _ x.p c.none.ensures.1)
 
 mark-requires : tie.Need-mark-requires invariant-loop decreases-loop
 mark-requires c κs =
@@ -32,7 +32,7 @@ loop-again c =
     let x = c.before.before.before.before.before.before.args in
     let l = c.before.before.before.before.loop in
     let m = c.mark.ensures in
-    (search rules, search rules, m.0, marks-more x.order.now l.inside _ x.p l.i l.invariant.0 (omega arith) l.invariant.3 m.1)
+    (search rules, search rules, m.0, marks_more x.order.now l.inside _ x.p l.i l.invariant.0 (omega arith) l.invariant.3 m.1)
 
 returns : tie.Need-returns invariant-loop decreases-loop
 returns c =

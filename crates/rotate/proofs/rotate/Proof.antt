@@ -2,10 +2,10 @@
 use Prim.Native.Nat.{◌+◌, ◌≤◌}
 use native.Mathlib.Omega.{arith}
 use mathlib.Core.List.{[]}
-use Rattle.records.specs.Tables.{armTables}
+use Rattle.records.specs.Tables.{arm_tables}
 use Rattle.marks.specs.Sets.{member}
 use Rattle.rotate.specs.Turning.{liked}
-use Rattle.rotate.proofs.RotateLaws.{turn-fits, rotated-none, rotated-stuck, rotated-so}
+use Rattle.rotate.proofs.RotateLaws.{turn_fits, rotated_none, rotated_stuck, rotated_so}
 use borrow.Author.Rules.{rules}
 use Rattle.rotate.proofs.rotate.Statement.{statement}
 use Rattle.rotate.proofs.rotate.Tie as tie
@@ -15,7 +15,7 @@ returns c =
     let d = c.before.before.before in
     let x = d.args in (
       d.requires.1.1.sized,
-      rotated-none x.marks.now x.weight.now x.first.now x.count.now x.to.now x.heft.now x.seen.now x.starts.now x.entry x.s x.e x.order.now d.requires.1.1 _ c.before.turning-place.ensures
+      rotated_none x.marks.now x.weight.now x.first.now x.count.now x.to.now x.heft.now x.seen.now x.starts.now x.entry x.s x.e x.order.now d.requires.1.1 _ c.before.turning-place.ensures
           c.if1.true,
     )
 
@@ -25,7 +25,7 @@ returns-2 c =
     let d = i.before.before.before.before.before in
     let x = d.args in (
       d.requires.1.1.sized,
-      rotated-stuck x.marks.now x.weight.now x.first.now x.count.now x.to.now x.heft.now x.seen.now x.starts.now x.entry x.s x.e x.order.now d.requires.1.1 _
+      rotated_stuck x.marks.now x.weight.now x.first.now x.count.now x.to.now x.heft.now x.seen.now x.starts.now x.entry x.s x.e x.order.now d.requires.1.1 _
           i.before.before.before.turning-place.ensures _ i.inside_of.ensures.1 _ c.before.before.best-exit.ensures c.enum_told.given.1,
     )
 
@@ -36,7 +36,7 @@ room c =
     let i = b.before.before.before in
     let d = i.before.before.before.before.before in
     let x = d.args in
-    turn-fits (armTables x.first.now x.count.now x.to.now [] x.heft.now) (liked x.seen.now x.starts.now) (member i.inside_of.result) x.order.now _ x.e _ _ _ _
+    turn_fits (arm_tables x.first.now x.count.now x.to.now [] x.heft.now) (liked x.seen.now x.starts.now) (member i.inside_of.result) x.order.now _ x.e _ _ _ _
     i.before.before.if1.false (omega (arith, d.requires.1.1.within, d.requires.1.1.sized)) c.before.before.out.given.1 (b.best-exit.ensures [])
 
 turn-part-requires : tie.Need-turn-part-requires
@@ -49,7 +49,7 @@ returns-3 c =
     let d = i.before.before.before.before.before in
     let x = d.args in (
       c.turn-part.ensures.0,
-      rotated-so x.marks.now x.weight.now x.first.now x.count.now x.to.now x.heft.now x.seen.now x.starts.now x.entry x.s x.e x.order.now d.requires.1.1 _
+      rotated_so x.marks.now x.weight.now x.first.now x.count.now x.to.now x.heft.now x.seen.now x.starts.now x.entry x.s x.e x.order.now d.requires.1.1 _
           i.before.before.before.turning-place.ensures _ i.inside_of.ensures.1 _ b.best-exit.ensures _ _ _ c.before.before.before.out.given.1 _ c.turn-part.ensures.1,
     )
 

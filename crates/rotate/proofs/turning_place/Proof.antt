@@ -1,12 +1,12 @@
 -- `rotate::turning_place` meets its contract: the rule's tests, by the tables.
 use native.Mathlib.Omega.{arith}
-use Rattle.rotate.proofs.RotateLaws.{held_in, nowhere, turned-from, not-turned}
+use Rattle.rotate.proofs.RotateLaws.{held_in, nowhere, turned_from, not_turned}
 use borrow.Author.Rules.{rules}
 use Rattle.rotate.proofs.turning_place.Statement.{statement}
 use Rattle.rotate.proofs.turning_place.Tie as tie
 
 back-arm-requires : tie.Need-back-arm-requires
-back-arm-requires c κs = let d = c.before.requires.0 in (d.first-sized, d.count-sized, d.heft-sized, d.fits _)
+back-arm-requires c κs = let d = c.before.requires.0 in (d.first_sized, d.count_sized, d.heft_sized, d.fits _)
 
 returns : tie.Need-returns
 returns c =
@@ -32,7 +32,7 @@ returns-2 c =
     let a = c.before.before.before.before.before.before in
     let d = a.before.before.before.before in
     let x = d.args in
-    turned-from x.marks.now x.weight.now x.first.now x.count.now x.to.now x.heft.now x.order.now x.entry x.s x.e d.requires.1 _ a.before.before.back-arm.ensures.1 _
+    turned_from x.marks.now x.weight.now x.first.now x.count.now x.to.now x.heft.now x.order.now x.entry x.s x.e d.requires.1 _ a.before.before.back-arm.ensures.1 _
     a.back.given.1 _ c.before.before.before.find.ensures _ c.before.turns.ensures c.if1.true
 
 returns-3 : tie.Need-returns-3
@@ -40,7 +40,7 @@ returns-3 c =
     let a = c.before.before.before.before.before.before in
     let d = a.before.before.before.before in
     let x = d.args in
-    not-turned x.marks.now x.weight.now x.first.now x.count.now x.to.now x.heft.now x.order.now x.entry x.s x.e d.requires.1 _ a.before.before.back-arm.ensures.1 _
+    not_turned x.marks.now x.weight.now x.first.now x.count.now x.to.now x.heft.now x.order.now x.entry x.s x.e d.requires.1 _ a.before.before.back-arm.ensures.1 _
     a.back.given.1 _ c.before.before.before.find.ensures _ c.before.turns.ensures c.if1.false
 
 pub turning-place-spec : {M : Type 1} → statement M

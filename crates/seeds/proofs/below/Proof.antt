@@ -2,8 +2,8 @@
 use mathlib.Core.Path.{ap, ◌∙◌}
 use borrow.Author.Rules.{rules}
 use borrow.Author.Tests.{not-true, not-false}
-use Rattle.rules.specs.Graph.{isCold}
-use Rattle.seeds.proofs.StartLaws.{below-cold, below-reached, below-weight}
+use Rattle.rules.specs.Graph.{is_cold}
+use Rattle.seeds.proofs.StartLaws.{below_cold, below_reached, below_weight}
 use Rattle.seeds.proofs.below.Statement.{statement}
 use Rattle.seeds.proofs.below.Tie as tie
 
@@ -11,16 +11,16 @@ returns : tie.Need-returns
 returns c =
     let s = c.before.before.before.before in
     let a = s.before.args in
-    below-cold a.marks.now a.weight.now a.reached.now a.x a.y _ _ (c.before.before.before.is-cold.ensures ∙ ap isCold s.byte_of.ensures)
-    (c.before.is-cold2.ensures ∙ ap isCold c.before.before.byte-of2.ensures) (not-true _ c.if1.true)
+    below_cold a.marks.now a.weight.now a.reached.now a.x a.y _ _ (c.before.before.before.is-cold.ensures ∙ ap is_cold s.byte_of.ensures)
+    (c.before.is-cold2.ensures ∙ ap is_cold c.before.before.byte-of2.ensures) (not-true _ c.if1.true)
 
 returns-2 : tie.Need-returns-2
 returns-2 c =
     let d = c.before.before.before in
     let s = d.before.before.before.before in
     let a = s.before.args in
-    below-reached a.marks.now a.weight.now a.reached.now a.x a.y _ _ (d.before.before.before.is-cold.ensures ∙ ap isCold s.byte_of.ensures)
-    (d.before.is-cold2.ensures ∙ ap isCold d.before.before.byte-of2.ensures) (not-false _ d.if1.false) _ _ c.before.before.weight-of.ensures c.before.weight-of2.ensures
+    below_reached a.marks.now a.weight.now a.reached.now a.x a.y _ _ (d.before.before.before.is-cold.ensures ∙ ap is_cold s.byte_of.ensures)
+    (d.before.is-cold2.ensures ∙ ap is_cold d.before.before.byte-of2.ensures) (not-false _ d.if1.false) _ _ c.before.before.weight-of.ensures c.before.weight-of2.ensures
     c.if2.true
 
 returns-3 : tie.Need-returns-3
@@ -30,8 +30,8 @@ returns-3 c =
     let s = d.before.before.before.before in
     let a = s.before.args in
     rw (c.before.weight-of3.ensures, c.weight-of4.ensures)
-    (below-weight a.marks.now a.weight.now a.reached.now a.x a.y _ _ (d.before.before.before.is-cold.ensures ∙ ap isCold s.byte_of.ensures)
-    (d.before.is-cold2.ensures ∙ ap isCold d.before.before.byte-of2.ensures) (not-false _ d.if1.false) _ _ e.before.before.weight-of.ensures e.before.weight-of2.ensures
+    (below_weight a.marks.now a.weight.now a.reached.now a.x a.y _ _ (d.before.before.before.is-cold.ensures ∙ ap is_cold s.byte_of.ensures)
+    (d.before.is-cold2.ensures ∙ ap is_cold d.before.before.byte-of2.ensures) (not-false _ d.if1.false) _ _ e.before.before.weight-of.ensures e.before.weight-of2.ensures
     e.if2.false)
 
 pub below-spec : {M : Type 1} → statement M

@@ -1,27 +1,27 @@
 -- `seeds::better` meets its contract.
 use mathlib.Core.Path.{sym, ◌∙◌}
 use borrow.Author.Rules.{rules}
-use Rattle.seeds.specs.Starts.{seedBy}
-use Rattle.seeds.proofs.StartLaws.{first_one, later-one, former-one}
+use Rattle.seeds.specs.Starts.{seed_by}
+use Rattle.seeds.proofs.StartLaws.{first_one, later_one, former_one}
 use Rattle.seeds.proofs.better.Statement.{statement}
 use Rattle.seeds.proofs.better.Tie as tie
 
 returns : tie.Need-returns
 returns c =
     let a = c.before.before.args in
-    first_one (seedBy a.marks.now a.weight.now a.reached.now) a.best a.n c.enum_told.given.1
+    first_one (seed_by a.marks.now a.weight.now a.reached.now) a.best a.n c.enum_told.given.1
 
 returns-2 : tie.Need-returns-2
 returns-2 c =
     let s = c.before.before.before in
     let a = s.before.before.args in
-    later-one (seedBy a.marks.now a.weight.now a.reached.now) a.best a.n _ s.best.given.1 (sym c.if1.true ∙ c.before.below.ensures)
+    later_one (seed_by a.marks.now a.weight.now a.reached.now) a.best a.n _ s.best.given.1 (sym c.if1.true ∙ c.before.below.ensures)
 
 returns-3 : tie.Need-returns-3
 returns-3 c =
     let s = c.before.before.before in
     let a = s.before.before.args in
-    former-one (seedBy a.marks.now a.weight.now a.reached.now) a.best a.n _ s.best.given.1 (sym c.if1.false ∙ c.before.below.ensures)
+    former_one (seed_by a.marks.now a.weight.now a.reached.now) a.best a.n _ s.best.given.1 (sym c.if1.false ∙ c.before.below.ensures)
 
 pub better-spec : {M : Type 1} → statement M
 better-spec =

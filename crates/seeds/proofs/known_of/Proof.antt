@@ -5,7 +5,7 @@ use lib.ListN.{get_or}
 use borrow.Author.Rules.{rules}
 use Rattle.seeds.specs.Spans.{width}
 use Rattle.seeds.specs.Looks.{Small, Looked}
-use Rattle.seeds.proofs.LookLaws.{span-end, spanned-looked, left-looked, best-looked, knows-looked}
+use Rattle.seeds.proofs.LookLaws.{span_end, spanned_looked, left_looked, best_looked, knows_looked}
 use Rattle.seeds.proofs.known_of.Statement.{statement}
 use Rattle.seeds.proofs.known_of.Tie as tie
 
@@ -25,7 +25,7 @@ look-requires c κs =
     let s = d.requires.1.0 in
     let lt = d.requires.1.1 in
     let e = c.before.wide.ensures in
-    (d.requires.0, (s.left-sized, omega (arith, e, s.from a.g lt), omega (arith, e, span-end a.left.now a.upto.now a.known.now a.n s a.g lt), rw e (s.small a.g lt)))
+    (d.requires.0, (s.left_sized, omega (arith, e, s.from a.g lt), omega (arith, e, span_end a.left.now a.upto.now a.known.now a.n s a.g lt), rw e (s.small a.g lt)))
 
 cast-upto : tie.Need-overflow-cast-upto
 cast-upto c =
@@ -33,7 +33,7 @@ cast-upto c =
     let a = d.args in
     let e = c.before.before.before.wide.ensures in
     let h = c.before.look.ensures.0.high in
-    record { fits = omega (arith, e, h, span-end a.left.now a.upto.now a.known.now a.n d.requires.1.0 a.g d.requires.1.1) }
+    record { fits = omega (arith, e, h, span_end a.left.now a.upto.now a.known.now a.n d.requires.1.0 a.g d.requires.1.1) }
 
 returns-2 : tie.Need-returns-2
 returns-2 c =
@@ -44,11 +44,11 @@ returns-2 c =
     let e = c.before.before.before.wide.ensures in
     let k = c.before.look.ensures in
     let v = c.before.look.result.known in (
-      spanned-looked a.left.now a.upto.now a.known.now a.n s a.g lt a.seen.now _ _ _ e k.0 v,
+      spanned_looked a.left.now a.upto.now a.known.now a.n s a.g lt a.seen.now _ _ _ e k.0 v,
       λ plain l q. (
-        left-looked a.left.now a.upto.now a.known.now a.n s a.g lt a.seen.now _ _ _ e k.0 plain l,
-        knows-looked a.left.now a.upto.now a.known.now a.n s a.g lt a.marks.now a.weight.now a.seen.now a.reached.now a.low plain v q (best-looked a.left.now a.upto.now a.known.now a.n s a.g lt a.marks.now a.weight.now a.seen.now a.reached.now a.low plain v _ e l k.1),
-        best-looked a.left.now a.upto.now a.known.now a.n s a.g lt a.marks.now a.weight.now a.seen.now a.reached.now a.low plain v _ e l k.1,
+        left_looked a.left.now a.upto.now a.known.now a.n s a.g lt a.seen.now _ _ _ e k.0 plain l,
+        knows_looked a.left.now a.upto.now a.known.now a.n s a.g lt a.marks.now a.weight.now a.seen.now a.reached.now a.low plain v q (best_looked a.left.now a.upto.now a.known.now a.n s a.g lt a.marks.now a.weight.now a.seen.now a.reached.now a.low plain v _ e l k.1),
+        best_looked a.left.now a.upto.now a.known.now a.n s a.g lt a.marks.now a.weight.now a.seen.now a.reached.now a.low plain v _ e l k.1,
       ),
     )
 

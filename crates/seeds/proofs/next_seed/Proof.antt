@@ -3,7 +3,7 @@ use Prim.Native.Nat.{◌-◌, ◌≤◌}
 use native.Mathlib.Omega.{arith}
 use borrow.Author.Rules.{rules}
 use Rattle.seeds.specs.Looks.{Spanned}
-use Rattle.seeds.proofs.LookLaws.{Searching, searching-first, searching-more, searching-last}
+use Rattle.seeds.proofs.LookLaws.{Searching, searching_first, searching_more, searching_last}
 use Rattle.seeds.proofs.next_seed.Statement.{statement}
 use Rattle.seeds.proofs.next_seed.Tie as tie
 
@@ -17,7 +17,7 @@ decreases-loop marks weight seen reached low n left₀ upto₀ known₀ best₀ 
 loop-holds : tie.Need-loop-init invariant-loop decreases-loop
 loop-holds c =
     let a = c.args in
-    (c.requires.1, omega arith, searching-first a.marks.now a.weight.now a.seen.now a.reached.now a.low a.n a.left.now a.upto.now a.known.now)
+    (c.requires.1, omega arith, searching_first a.marks.now a.weight.now a.seen.now a.reached.now a.low a.n a.left.now a.upto.now a.known.now)
 
 known-of-requires : tie.Need-known-of-requires invariant-loop decreases-loop
 known-of-requires c κs =
@@ -46,14 +46,14 @@ loop-again c =
     let k = c.before.Known-of.ensures in (
       k.0,
       omega (arith, t),
-      searching-more a.marks.now a.weight.now a.seen.now a.reached.now a.low a.n a.left.now a.upto.now a.known.now l.loop.left l.loop.upto l.loop.known l.loop.best l.loop.g l.loop.invariant.2 _ _ _ _ k.1 _ c.further.ensures,
+      searching_more a.marks.now a.weight.now a.seen.now a.reached.now a.low a.n a.left.now a.upto.now a.known.now l.loop.left l.loop.upto l.loop.known l.loop.best l.loop.g l.loop.invariant.2 _ _ _ _ k.1 _ c.further.ensures,
     )
 
 returns : tie.Need-returns invariant-loop decreases-loop
 returns c =
     let l = c.before in
     let a = l.before.args in
-    (l.loop.invariant.0, searching-last a.marks.now a.weight.now a.seen.now a.reached.now a.low a.n a.left.now a.upto.now a.known.now l.loop.left l.loop.upto l.loop.known l.loop.best l.loop.g l.loop.invariant.2 c.loop-test.false)
+    (l.loop.invariant.0, searching_last a.marks.now a.weight.now a.seen.now a.reached.now a.low a.n a.left.now a.upto.now a.known.now l.loop.left l.loop.upto l.loop.known l.loop.best l.loop.g l.loop.invariant.2 c.loop-test.false)
 
 pub next-seed-spec : {M : Type 1} → statement M
 next-seed-spec = tie.close (tie.spec invariant-loop decreases-loop loop-holds known-of-requires further-requires add-g loop-less loop-again returns)

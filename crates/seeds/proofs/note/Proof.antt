@@ -6,8 +6,8 @@ use lib.ListN.{length}
 use borrow.Author.Rules.{rules}
 use Rattle.limits.specs.Limits.{blocks, arms}
 use Rattle.seeds.specs.Spans.{Forgets}
-use Rattle.seeds.proofs.ReachedLaws.{raised, raised-length, noted, noted-next, noted-end, goes_in, noted-all}
-use Rattle.seeds.proofs.SpanLaws.{forgets-none, forgets-laid, forgets-more}
+use Rattle.seeds.proofs.ReachedLaws.{raised, raised_length, noted, noted_next, noted_end, goes_in, noted_all}
+use Rattle.seeds.proofs.SpanLaws.{forgets_none, forgets_laid, forgets_more}
 use Rattle.seeds.proofs.note.Statement.{statement}
 use Rattle.seeds.proofs.note.Tie as tie
 
@@ -26,7 +26,7 @@ loop-holds : tie.Need-loop-init invariant-loop decreases-loop
 loop-holds c =
     let s = c.before.before in
     let a = s.args in
-    (omega arith, omega arith, omega (arith, c.before.entry_of.ensures, c.entry-of2.ensures, s.requires.0.fits), s.requires.2, refl, forgets-none a.span.now a.reached.now a.known.now s.requires.3)
+    (omega arith, omega arith, omega (arith, c.before.entry_of.ensures, c.entry-of2.ensures, s.requires.0.fits), s.requires.2, refl, forgets_none a.span.now a.reached.now a.known.now s.requires.3)
 
 raise-requires : tie.Need-raise-requires invariant-loop decreases-loop
 raise-requires c κs =
@@ -48,9 +48,9 @@ loop-again c =
       omega (arith, v.0),
       omega (arith, lt),
       v.2,
-      ap length e ∙ raised-length a.to.now a.heft.now l.loop.q l.loop.reached ∙ v.3,
-      noted-next a.to.now a.heft.now l.loop.q _ l.loop.reached _ lt e ∙ v.4,
-      forgets-more a.span.now a.reached.now a.known.now l.loop.reached l.loop.known _ _ v.5 k,
+      ap length e ∙ raised_length a.to.now a.heft.now l.loop.q l.loop.reached ∙ v.3,
+      noted_next a.to.now a.heft.now l.loop.q _ l.loop.reached _ lt e ∙ v.4,
+      forgets_more a.span.now a.reached.now a.known.now l.loop.reached l.loop.known _ _ v.5 k,
     )
 
 returns : tie.Need-returns invariant-loop decreases-loop
@@ -59,12 +59,12 @@ returns c =
     let s = l.before.before.before in
     let a = s.args in
     let v = l.loop.invariant in
-    let k = forgets-laid a.span.now l.loop.reached l.loop.known a.n v.5.sized _ c.forget.ensures in (
+    let k = forgets_laid a.span.now l.loop.reached l.loop.known a.n v.5.sized _ c.forget.ensures in (
       v.3,
       (
-        noted-all s.requires.0 _ _ l.before.before.entry_of.ensures l.before.entry-of2.ensures a.reached.now l.loop.reached s.requires.2
-            (sym (noted-end a.to.now a.heft.now l.loop.q _ l.loop.reached c.before.before.loop-test.false) ∙ v.4),
-        (forgets-more a.span.now a.reached.now a.known.now l.loop.reached l.loop.known _ _ v.5 k.0, k.1),
+        noted_all s.requires.0 _ _ l.before.before.entry_of.ensures l.before.entry-of2.ensures a.reached.now l.loop.reached s.requires.2
+            (sym (noted_end a.to.now a.heft.now l.loop.q _ l.loop.reached c.before.before.loop-test.false) ∙ v.4),
+        (forgets_more a.span.now a.reached.now a.known.now l.loop.reached l.loop.known _ _ v.5 k.0, k.1),
       ),
     )
 

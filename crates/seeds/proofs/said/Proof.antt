@@ -4,7 +4,7 @@ use mathlib.Core.Path.{sym, ◌∙◌, subst}
 use borrow.Author.Rules.{rules}
 use Rattle.limits.specs.Limits.{blocks}
 use Rattle.seeds.specs.Looks.{Low}
-use Rattle.seeds.proofs.LookLaws.{start-at, start_none}
+use Rattle.seeds.proofs.LookLaws.{start_at, start_none}
 use Rattle.seeds.proofs.said.Statement.{statement}
 use Rattle.seeds.proofs.said.Tie as tie
 
@@ -12,7 +12,7 @@ returns : tie.Need-returns
 returns c =
     let d = c.before.before.before in
     let e = c.before.start.given.1 in
-    start-at _ (subst Low e d.requires) ∙ sym e
+    start_at _ (subst Low e d.requires) ∙ sym e
 
 returns-2 : tie.Need-returns-2
 returns-2 c = start_none blocks (omega arith) ∙ sym c.enum_told.given.1

@@ -5,8 +5,8 @@ use lib.ListN.{take}
 use Rattle.limits.specs.Limits.{blocks}
 use Rattle.flow.proofs.LentLaws.{sized}
 use Rattle.traces.specs.Held.{Roomy}
-use Rattle.traces.proofs.HeldLaws.{found-few}
-use Rattle.traces.proofs.FillLaws.{Going, going-first, going_more, going-full, adds}
+use Rattle.traces.proofs.HeldLaws.{found_few}
+use Rattle.traces.proofs.FillLaws.{Going, going_first, going_more, going_full, adds}
 use borrow.Author.Rules.{rules}
 use Rattle.traces.proofs.fill.Statement.{statement}
 use Rattle.traces.proofs.fill.Tie as tie
@@ -21,7 +21,7 @@ decreases-loop marks weight first count to heft entry plain n likely low found s
 loop-holds : tie.Need-loop-init invariant-loop decreases-loop
 loop-holds c =
     let x = c.args in
-    (c.requires.1.0, going-first x.marks.now x.weight.now x.first.now x.count.now x.to.now x.heft.now x.entry (take x.n x.plain.now) x.likely x.low x.seen.now x.starts.now x.reached.now x.order.now x.ends.now x.found)
+    (c.requires.1.0, going_first x.marks.now x.weight.now x.first.now x.count.now x.to.now x.heft.now x.entry (take x.n x.plain.now) x.likely x.low x.seen.now x.starts.now x.reached.now x.order.now x.ends.now x.found)
 
 next-seed-requires : tie.Need-next-seed-requires invariant-loop decreases-loop
 next-seed-requires c κs =
@@ -30,14 +30,14 @@ next-seed-requires c κs =
     let l = c.before.before.loop in
     let w = sized d.requires.0.enters.flows in
     let r = l.invariant.0 in
-    ((w.marks-sized, w.weight-sized, r.reached-sized), (d.requires.1.2, d.requires.1.3, r.seen-sized))
+    ((w.marks_sized, w.weight_sized, r.reached_sized), (d.requires.1.2, d.requires.1.3, r.seen_sized))
 
 returns : tie.Need-returns invariant-loop decreases-loop
 returns c =
     let d = c.before.before.before.before.before.before in
     let x = d.args in
     let l = c.before.before.before.before.before.loop in
-    (l.invariant.0, going-full x.marks.now x.weight.now x.first.now x.count.now x.to.now x.heft.now x.entry (take x.n x.plain.now) x.likely x.low x.seen.now x.starts.now x.reached.now x.order.now x.ends.now x.found l.seen l.starts l.reached l.order l.ends l.k _ c.before.before.next-seed.ensures.1 l.invariant.1 c.enum_told.given.1)
+    (l.invariant.0, going_full x.marks.now x.weight.now x.first.now x.count.now x.to.now x.heft.now x.entry (take x.n x.plain.now) x.likely x.low x.seen.now x.starts.now x.reached.now x.order.now x.ends.now x.found l.seen l.starts l.reached l.order l.ends l.k _ c.before.before.next-seed.ensures.1 l.invariant.1 c.enum_told.given.1)
 
 add-trace-requires : tie.Need-add-trace-requires invariant-loop decreases-loop
 add-trace-requires c κs =
@@ -52,7 +52,7 @@ add-k c =
     let x = d.args in
     let l = c.before.before.before.before.before.before.before.before.before.before.before.before.loop in
     let a = adds x.marks.now x.weight.now x.first.now x.count.now x.to.now x.heft.now x.entry (take x.n x.plain.now) x.likely x.low x.seen.now x.starts.now x.reached.now x.order.now x.ends.now x.found l.seen l.starts l.reached l.order l.ends l.k _ c.before.before.before.before.before.before.before.before.before.next-seed.ensures.1 l.invariant.1 d.requires.0 _ c.before.before.before.before.before.before.before.next.given.1 in
-    omega (arith, found-few a.enters.flows a.so_far l.seen l.starts l.reached l.order l.ends l.k a.held x.entry _ a.enters.entry-is a.free)
+    omega (arith, found_few a.enters.flows a.so_far l.seen l.starts l.reached l.order l.ends l.k a.held x.entry _ a.enters.entry_is a.free)
 
 loop-less : tie.Need-loop-smaller invariant-loop decreases-loop
 loop-less c =
@@ -60,7 +60,7 @@ loop-less c =
     let x = d.args in
     let l = c.before.before.before.before.before.before.before.before.before.before.before.before.loop in
     let a = adds x.marks.now x.weight.now x.first.now x.count.now x.to.now x.heft.now x.entry (take x.n x.plain.now) x.likely x.low x.seen.now x.starts.now x.reached.now x.order.now x.ends.now x.found l.seen l.starts l.reached l.order l.ends l.k _ c.before.before.before.before.before.before.before.before.before.next-seed.ensures.1 l.invariant.1 d.requires.0 _ c.before.before.before.before.before.before.before.next.given.1 in
-    omega (arith, found-few a.enters.flows a.so_far l.seen l.starts l.reached l.order l.ends l.k a.held x.entry _ a.enters.entry-is a.free)
+    omega (arith, found_few a.enters.flows a.so_far l.seen l.starts l.reached l.order l.ends l.k a.held x.entry _ a.enters.entry_is a.free)
 
 loop-again : tie.Need-loop-preserved invariant-loop decreases-loop
 loop-again c =

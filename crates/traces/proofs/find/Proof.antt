@@ -1,19 +1,19 @@
 -- `traces::find` meets its contract.
 use lib.ListN.{take}
 use Rattle.flow.proofs.LentLaws.{sized}
-use Rattle.traces.proofs.RoundLaws.{finds-opens, finds-turns, found_all}
+use Rattle.traces.proofs.RoundLaws.{finds_opens, finds_turns, found_all}
 use Rattle.traces.proofs.find.Statement.{statement}
 use Rattle.traces.proofs.find.Tie as tie
 
 entered-weight-requires : tie.Need-entered-weight-requires
-entered-weight-requires c κs = (sized c.requires.0.enters.flows).weight-sized
+entered-weight-requires c κs = (sized c.requires.0.enters.flows).weight_sized
 
 enter-requires : tie.Need-enter-requires
 enter-requires c κs =
     let d = c.before.before.before.before.before.before in
     let x = d.args in
     let w = c.before.before.before.before.before.entered-weight in
-    (finds-opens x.marks.now x.weight.now x.first.now x.count.now x.to.now x.heft.now x.entry w.result w.ensures (take x.n x.plain.now) x.seen.now x.starts.now x.reached.now x.order.now x.ends.now d.requires.0, d.requires.1.0)
+    (finds_opens x.marks.now x.weight.now x.first.now x.count.now x.to.now x.heft.now x.entry w.result w.ensures (take x.n x.plain.now) x.seen.now x.starts.now x.reached.now x.order.now x.ends.now d.requires.0, d.requires.1.0)
 
 rounds-requires : tie.Need-rounds-requires
 rounds-requires c κs =
@@ -21,7 +21,7 @@ rounds-requires c κs =
     let x = d.args in
     let w = c.before.before.before.before.before.before.before.before.before.before.before.entered-weight in
     let e = c.before.before.before.before.before.enter in
-    (finds-turns x.marks.now x.weight.now x.first.now x.count.now x.to.now x.heft.now x.entry w.result w.ensures (take x.n x.plain.now) x.seen.now x.starts.now x.reached.now x.order.now x.ends.now _ _ _ _ _ _ e.ensures.1 d.requires.0, (e.ensures.0, d.requires.1.1, d.requires.1.2))
+    (finds_turns x.marks.now x.weight.now x.first.now x.count.now x.to.now x.heft.now x.entry w.result w.ensures (take x.n x.plain.now) x.seen.now x.starts.now x.reached.now x.order.now x.ends.now _ _ _ _ _ _ e.ensures.1 d.requires.0, (e.ensures.0, d.requires.1.1, d.requires.1.2))
 
 returns : tie.Need-returns
 returns c =

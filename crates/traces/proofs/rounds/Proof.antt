@@ -4,7 +4,7 @@ use native.Mathlib.Omega.{arith}
 use lib.ListN.{length, take}
 use Rattle.rules.specs.Traces.{rounds}
 use Rattle.traces.specs.Held.{Roomy}
-use Rattle.traces.proofs.RoundLaws.{round-small, rounds-long, Done, done_first, turns-fills, done_more, done_all}
+use Rattle.traces.proofs.RoundLaws.{round_small, rounds_long, Done, done_first, turns_fills, done_more, done_all}
 use borrow.Author.Rules.{rules}
 use Rattle.traces.proofs.rounds.Statement.{statement}
 use Rattle.traces.proofs.rounds.Tie as tie
@@ -22,27 +22,27 @@ loop-holds c =
     (omega arith, c.requires.1.0, done_first x.marks.now x.weight.now x.first.now x.count.now x.to.now x.heft.now x.entry x.entered (take x.n x.plain.now) x.seen.now x.starts.now x.reached.now x.order.now x.ends.now x.found)
 
 floor-requires : tie.Need-floor-requires invariant-loop decreases-loop
-floor-requires c κs = omega (arith, c.nth-round.ensures.1, (round-small c.before.before.loop.i).1)
+floor-requires c κs = omega (arith, c.nth-round.ensures.1, (round_small c.before.before.loop.i).1)
 
 fill-requires : tie.Need-fill-requires invariant-loop decreases-loop
 fill-requires c κs =
     let d = c.before.before.before.before.before.before.before.before.before in
     let x = d.args in
     let l = c.before.before.before.before.before.before.before.before.loop in (
-      turns-fills x.marks.now x.weight.now x.first.now x.count.now x.to.now x.heft.now x.entry x.entered (take x.n x.plain.now) x.seen.now x.starts.now x.reached.now x.order.now x.ends.now x.found l.seen l.starts l.reached l.order l.ends l.k l.i l.invariant.2 d.requires.0,
-      (l.invariant.1, omega (arith, c.before.before.before.before.before.before.nth-round.ensures.0, (round-small l.i).0), d.requires.1.1, d.requires.1.2),
+      turns_fills x.marks.now x.weight.now x.first.now x.count.now x.to.now x.heft.now x.entry x.entered (take x.n x.plain.now) x.seen.now x.starts.now x.reached.now x.order.now x.ends.now x.found l.seen l.starts l.reached l.order l.ends l.k l.i l.invariant.2 d.requires.0,
+      (l.invariant.1, omega (arith, c.before.before.before.before.before.before.nth-round.ensures.0, (round_small l.i).0), d.requires.1.1, d.requires.1.2),
     )
 
 loop-less : tie.Need-loop-smaller invariant-loop decreases-loop
 loop-less c =
-    omega (arith, c.before.before.before.before.before.before.before.before.loop-test.true, rounds-long)
+    omega (arith, c.before.before.before.before.before.before.before.before.loop-test.true, rounds_long)
 
 loop-again : tie.Need-loop-preserved invariant-loop decreases-loop
 loop-again c =
     let d = c.before.before.before.before.before.before.before.before.before.before in
     let x = d.args in
     let l = c.before.before.before.before.before.before.before.before.before.loop in
-    let h : l.i < length rounds = omega (arith, c.before.before.before.before.before.before.before.before.loop-test.true, rounds-long) in (
+    let h : l.i < length rounds = omega (arith, c.before.before.before.before.before.before.before.before.loop-test.true, rounds_long) in (
       omega (arith, h),
       c.fill.ensures.0,
       done_more x.marks.now x.weight.now x.first.now x.count.now x.to.now x.heft.now x.entry x.entered (take x.n x.plain.now) x.seen.now x.starts.now x.reached.now x.order.now x.ends.now x.found l.seen l.starts l.reached l.order l.ends l.k l.i l.invariant.2 h _ _ _ c.before.before.before.before.before.before.before.nth-round.ensures c.before.before.before.before.before.before.floor.ensures _ _ _ _ _ _ (l.i + 1) (omega arith) c.fill.ensures.1,
@@ -53,7 +53,7 @@ returns c =
     let d = c.before.before in
     let x = d.args in
     let l = c.before.loop in
-    (l.invariant.1, done_all x.marks.now x.weight.now x.first.now x.count.now x.to.now x.heft.now x.entry x.entered (take x.n x.plain.now) x.seen.now x.starts.now x.reached.now x.order.now x.ends.now x.found l.seen l.starts l.reached l.order l.ends l.k l.i l.invariant.2 (omega (arith, l.invariant.0, c.loop-test.false, rounds-long)))
+    (l.invariant.1, done_all x.marks.now x.weight.now x.first.now x.count.now x.to.now x.heft.now x.entry x.entered (take x.n x.plain.now) x.seen.now x.starts.now x.reached.now x.order.now x.ends.now x.found l.seen l.starts l.reached l.order l.ends l.k l.i l.invariant.2 (omega (arith, l.invariant.0, c.loop-test.false, rounds_long)))
 
 pub rounds-spec : {M : Type 1} → statement M
 rounds-spec =

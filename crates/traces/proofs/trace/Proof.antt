@@ -7,7 +7,7 @@ use Rattle.limits.specs.Limits.{blocks}
 use Rattle.marks.specs.Sets.{room}
 use Rattle.flow.proofs.LentLaws.{sized, small}
 use Rattle.seeds.proofs.ReachedLaws.{notes}
-use Rattle.traces.proofs.GrowLaws.{Grows, room_for, grows-first, grows-more, grows-turned, below_more, held-arm}
+use Rattle.traces.proofs.GrowLaws.{Grows, room_for, grows_first, grows_more, grows_turned, below_more, held_arm}
 use borrow.Author.Rules.{rules}
 use Rattle.traces.proofs.trace.Statement.{statement}
 use Rattle.traces.proofs.trace.Tie as tie
@@ -25,7 +25,7 @@ loop-holds : tie.Need-loop-init invariant-loop decreases-loop
 loop-holds c =
     let x = c.args in
     let p = c.requires in
-    (p.1.0.0, p.1.0.2, p.1.0.3, p.1.1, grows-first x.marks.now x.weight.now x.first.now x.count.now x.to.now x.heft.now x.starts.now x.entry x.likely x.low x.from x.start x.seen.now x.reached.now x.order.now)
+    (p.1.0.0, p.1.0.2, p.1.0.3, p.1.1, grows_first x.marks.now x.weight.now x.first.now x.count.now x.to.now x.heft.now x.starts.now x.entry x.likely x.low x.from x.start x.seen.now x.reached.now x.order.now)
 
 mark-requires : tie.Need-mark-requires invariant-loop decreases-loop
 mark-requires c κs =
@@ -108,20 +108,20 @@ returns c =
     let g = l.invariant.4 b.graph b.so_far b.flows b.ready in
     let fits = room_for b.flows b.so_far x.likely x.low x.from x.start x.order.now l.seen l.reached l.order l.at l.n g in (
       (c.before.before.before.before.before.before.before.before.before.mark.ensures.0, c.before.before.before.before.before.before.before.note.ensures.0, c.rotate.ensures.0),
-      grows-turned x.marks.now x.weight.now x.first.now x.count.now x.to.now x.heft.now x.starts.now x.entry x.likely x.low x.from x.start x.seen.now x.reached.now x.order.now l.seen l.reached l.order l.at l.n l.invariant.4 _ _ _ (omega (arith, fits, d.requires.1.0.3)) c.before.before.before.before.before.before.before.before.before.mark.ensures.1 c.before.before.before.before.before.before.before.note.ensures.1 refl _ c.before.before.before.before.before.along.ensures.1 (l.at + 1) (omega arith) c.before.before.before.enum_told.given.1 _ c.rotate.ensures.1,
+      grows_turned x.marks.now x.weight.now x.first.now x.count.now x.to.now x.heft.now x.starts.now x.entry x.likely x.low x.from x.start x.seen.now x.reached.now x.order.now l.seen l.reached l.order l.at l.n l.invariant.4 _ _ _ (omega (arith, fits, d.requires.1.0.3)) c.before.before.before.before.before.before.before.before.before.mark.ensures.1 c.before.before.before.before.before.before.before.note.ensures.1 refl _ c.before.before.before.before.before.along.ensures.1 (l.at + 1) (omega arith) c.before.before.before.enum_told.given.1 _ c.rotate.ensures.1,
     )
 
 mul-n : tie.Need-overflow-mul-n invariant-loop decreases-loop
 mul-n c =
     let d = c.before.before.before.before.before.before.before.before.before.before in
     let w = sized d.requires.0.flows in
-    omega (arith, w.fits c.before.before.before.before.before.before.before.before.before.loop.n, held-arm _ _ _ _ c.before.next.given.1 c.before.before.before.along.ensures.0)
+    omega (arith, w.fits c.before.before.before.before.before.before.before.before.before.loop.n, held_arm _ _ _ _ c.before.next.given.1 c.before.before.before.along.ensures.0)
 
 element-copy-out-n : tie.Need-element-copy-out-n invariant-loop decreases-loop
 element-copy-out-n c =
     let d = c.before.before.before.before.before.before.before.before.before.before in
     let w = sized d.requires.0.flows in
-    omega (arith, w.to-sized, w.fits c.before.before.before.before.before.before.before.before.before.loop.n, held-arm _ _ _ _ c.before.next.given.1 c.before.before.before.along.ensures.0)
+    omega (arith, w.to_sized, w.fits c.before.before.before.before.before.before.before.before.before.loop.n, held_arm _ _ _ _ c.before.next.given.1 c.before.before.before.along.ensures.0)
 
 loop-less : tie.Need-loop-smaller invariant-loop decreases-loop
 loop-less c =
@@ -145,7 +145,7 @@ loop-again c =
       c.before.before.before.before.before.before.note.ensures.0,
       search rules,
       below_more l.order l.at l.n (l.at + 1) (omega (arith, fits, l.invariant.2)) (omega (arith, Small-one)) l.invariant.3 (omega arith),
-      grows-more x.marks.now x.weight.now x.first.now x.count.now x.to.now x.heft.now x.starts.now x.entry x.likely x.low x.from x.start x.seen.now x.reached.now x.order.now l.seen l.reached l.order l.at l.n l.invariant.4 _ _ _ (omega (arith, fits, d.requires.1.0.3)) c.before.before.before.before.before.before.before.before.mark.ensures.1 c.before.before.before.before.before.before.note.ensures.1 refl _ c.before.before.before.before.along.ensures.1 (l.at + 1) (omega arith) _ c.before.before.next.given.1,
+      grows_more x.marks.now x.weight.now x.first.now x.count.now x.to.now x.heft.now x.starts.now x.entry x.likely x.low x.from x.start x.seen.now x.reached.now x.order.now l.seen l.reached l.order l.at l.n l.invariant.4 _ _ _ (omega (arith, fits, d.requires.1.0.3)) c.before.before.before.before.before.before.before.before.mark.ensures.1 c.before.before.before.before.before.before.note.ensures.1 refl _ c.before.before.before.before.along.ensures.1 (l.at + 1) (omega arith) _ c.before.before.next.given.1,
     )
 
 pub trace-spec : {M : Type 1} → statement M

@@ -2,9 +2,9 @@
 use native.Mathlib.Omega.{arith}
 use lib.ListN.{replicate}
 use Rattle.limits.specs.Limits.{blocks}
-use Rattle.walks.proofs.LentLaws.{lent-few, lent-sized, marks-sized}
+use Rattle.walks.proofs.LentLaws.{lent_few, lent_sized, marks_sized}
 use Rattle.flow.proofs.LentLaws.{sized}
-use Rattle.traces.proofs.JoinLaws.{orderable, plain-few, findable, joinable, joined}
+use Rattle.traces.proofs.JoinLaws.{orderable, plain_few, findable, joinable, joined}
 use borrow.Author.Rules.{rules}
 use Rattle.traces.proofs.traces.Statement.{statement}
 use Rattle.traces.proofs.traces.Tie as tie
@@ -19,7 +19,7 @@ find-requires c κs =
     let d = c.before.before in
     let x = d.args in
     let l = orderable x.listed.now x.marks.now x.weight.now x.first.now x.count.now x.to.now x.heft.now x.n d.requires in
-    (omega (arith, lent-few l.lent), lent-sized l.lent, marks-sized l)
+    (omega (arith, lent_few l.lent), lent_sized l.lent, marks_sized l)
 
 find-requires-2 : tie.Need-find-requires-2
 find-requires-2 c κs =
@@ -32,14 +32,14 @@ find-requires-2 c κs =
       findable x.listed.now x.marks.now x.weight.now x.first.now x.count.now x.to.now x.heft.now x.n o.result o.ensures e.result e.ensures m.result s.result (replicate blocks 0) (replicate blocks 0) m.ensures.1 s.ensures.1 d.requires,
       (
         record {
-          seen-sized = m.ensures.0;
-          starts-sized = s.ensures.0;
-          reached-sized = search rules;
-          order-sized = search rules;
-          ends-sized = search rules;
+          seen_sized = m.ensures.0;
+          starts_sized = s.ensures.0;
+          reached_sized = search rules;
+          order_sized = search rules;
+          ends_sized = search rules;
         },
         search rules,
-        omega (arith, plain-few x.listed.now x.marks.now x.weight.now x.first.now x.count.now x.to.now x.heft.now x.n o.result o.ensures e.result e.ensures d.requires),
+        omega (arith, plain_few x.listed.now x.marks.now x.weight.now x.first.now x.count.now x.to.now x.heft.now x.n o.result o.ensures e.result e.ensures d.requires),
       ),
     )
 
@@ -53,11 +53,11 @@ connect-requires c κs =
     let s = c.before.before.before.before.before.before.before.before.before.none2 in
     let w = sized d.requires.over.flows in (
       record {
-        marks-sized = w.marks-sized;
-        first-sized = w.first-sized;
-        count-sized = w.count-sized;
-        to-sized = w.to-sized;
-        heft-sized = w.heft-sized;
+        marks_sized = w.marks_sized;
+        first_sized = w.first_sized;
+        count_sized = w.count_sized;
+        to_sized = w.to_sized;
+        heft_sized = w.heft_sized;
         fits = w.fits;
       },
       joinable x.listed.now x.marks.now x.weight.now x.first.now x.count.now x.to.now x.heft.now x.n o.result o.ensures e.result e.ensures m.result s.result (replicate blocks 0) (replicate blocks 0) m.ensures.1 s.ensures.1 _ _ _ _ _ _ c.before.before.find2.ensures.1 c.before.before.find2.ensures.0 d.requires,

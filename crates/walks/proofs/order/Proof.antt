@@ -1,7 +1,7 @@
 -- `walks::order` meets its contract.
 use native.Mathlib.Omega.{arith}
-use Rattle.walks.proofs.RootLaws.{counts-most}
-use Rattle.walks.proofs.LentLaws.{lent-few, lent-sized, marks-sized, lent-enters, lent-long, ordered}
+use Rattle.walks.proofs.RootLaws.{counts_most}
+use Rattle.walks.proofs.LentLaws.{lent_few, lent_sized, marks_sized, lent_enters, lent_long, ordered}
 use borrow.Author.Rules.{rules}
 use Rattle.walks.proofs.order.Statement.{statement}
 use Rattle.walks.proofs.order.Tie as tie
@@ -9,7 +9,7 @@ use Rattle.walks.proofs.order.Tie as tie
 find-requires : tie.Need-find-requires
 find-requires c κs =
     let m = c.before.requires in
-    (omega (arith, lent-few m.lent), lent-sized m.lent, marks-sized m)
+    (omega (arith, lent_few m.lent), lent_sized m.lent, marks_sized m)
 
 reach-requires : tie.Need-reach-requires
 reach-requires c κs =
@@ -17,12 +17,12 @@ reach-requires c κs =
     let x = s.args in
     let f = c.before.before.find in
     let none = c.before.before.before.none.ensures in
-    (lent-enters x.listed.now x.first.now x.count.now x.to.now x.n x.marks.now f.result f.ensures s.requires, (none.0, search rules, none.1))
+    (lent_enters x.listed.now x.first.now x.count.now x.to.now x.n x.marks.now f.result f.ensures s.requires, (none.0, search rules, none.1))
 
 reversed-requires : tie.Need-reversed-requires
 reversed-requires c κs =
     let r = c.before.reach.ensures.0 in
-    (counts-most r, r.done-sized)
+    (counts_most r, r.done_sized)
 
 unreached-requires : tie.Need-unreached-requires
 unreached-requires c κs =
@@ -31,9 +31,9 @@ unreached-requires c κs =
     let f = c.before.before.before.before.before.before.find in
     let r = c.before.before.before.reach in
     let o = c.before.reversed in
-    let few = lent-few s.requires.lent in
-    let long = lent-long x.listed.now x.first.now x.count.now x.to.now x.n x.marks.now f.result f.ensures _ _ r.result r.ensures.1 s.requires in (
-      (r.ensures.0.seen-sized, lent-sized s.requires.lent, omega (arith, few)),
+    let few = lent_few s.requires.lent in
+    let long = lent_long x.listed.now x.first.now x.count.now x.to.now x.n x.marks.now f.result f.ensures _ _ r.result r.ensures.1 s.requires in (
+      (r.ensures.0.seen_sized, lent_sized s.requires.lent, omega (arith, few)),
       omega (arith, long, o.ensures.1, few),
     )
 

@@ -4,9 +4,9 @@ use native.Mathlib.Omega.{arith}
 use mathlib.Core.Path.{◌≡◌, refl, sym, ap, ◌∙◌}
 use lib.ListN.{length, take}
 use Rattle.limits.specs.Limits.{blocks}
-use Rattle.records.specs.Tables.{inOrder}
+use Rattle.records.specs.Tables.{in_order}
 use Rattle.walks.specs.Walking.{backwards}
-use Rattle.walks.proofs.OrderLaws.{reversed-more, reversed-all}
+use Rattle.walks.proofs.OrderLaws.{reversed_more, reversed_all}
 use borrow.Author.Rules.{rules}
 use Rattle.walks.proofs.reversed.Statement.{statement}
 use Rattle.walks.proofs.reversed.Tie as tie
@@ -26,16 +26,16 @@ loop-again c =
     let x = c.before.before.before.args in (
       search rules,
       search rules,
-      reversed-more x.done.now l.block x.n l.i c.before.loop-test.true (omega (arith, l.invariant.1, c.before.before.before.requires.0)) l.invariant.2,
+      reversed_more x.done.now l.block x.n l.i c.before.loop-test.true (omega (arith, l.invariant.1, c.before.before.before.requires.0)) l.invariant.2,
     )
 
 returns : tie.Need-returns invariant-loop decreases-loop
-unfolding inOrder
+unfolding in_order
 returns c =
     let l = c.before.loop in
     let x = c.before.before.args in
     let e : l.i ≡ x.n = omega (arith, l.invariant.0, c.loop-test.false) in (
-      ap (λ (k : ℕ). take k l.block) (sym e) ∙ l.invariant.2 ∙ ap (λ (k : ℕ). take k (backwards x.done.now x.n)) e ∙ reversed-all x.done.now x.n,
+      ap (λ (k : ℕ). take k l.block) (sym e) ∙ l.invariant.2 ∙ ap (λ (k : ℕ). take k (backwards x.done.now x.n)) e ∙ reversed_all x.done.now x.n,
       refl,
     )
 

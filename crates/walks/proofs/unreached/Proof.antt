@@ -6,8 +6,8 @@ use mathlib.Core.Bool.{Bool, not}
 use mathlib.Core.List.{List}
 use lib.ListN.{length}
 use Rattle.marks.specs.Sets.{member}
-use Rattle.records.specs.Tables.{inOrder}
-use Rattle.walks.proofs.OrderLaws.{Behind, behind-start, behind-no, behind-room, behind-yes}
+use Rattle.records.specs.Tables.{in_order}
+use Rattle.walks.proofs.OrderLaws.{Behind, behind_start, behind_no, behind_room, behind_yes}
 use borrow.Author.Rules.{rules}
 use Rattle.walks.proofs.unreached.Statement.{statement}
 use Rattle.walks.proofs.unreached.Tie as tie
@@ -22,7 +22,7 @@ abbrev decreases-loop : tie.decreases-loop
 decreases-loop seen listed n o₀ i₀ o i = n - i
 
 loop-holds : tie.Need-loop-init invariant-loop decreases-loop
-loop-holds c = (search rules, behind-start _ _ _ _ (search rules))
+loop-holds c = (search rules, behind_start _ _ _ _ (search rules))
 
 is-marked-requires : tie.Need-is-marked-requires invariant-loop decreases-loop
 is-marked-requires c κs = search rules
@@ -34,7 +34,7 @@ loop-again c =
     let l = c.before.before.before.before.loop in
     let h : l.i < length x.listed.now = omega (arith, c.before.before.before.loop-test.true, s.requires.0) in
     let e = ap not (sym c.before.is-marked.ensures ∙ c.if1.true) in
-    (search rules, behind-no (unmarked x.seen.now) x.listed.now x.t1.block x.t1.len l.o.block l.o.len l.i l.invariant.1 h e)
+    (search rules, behind_no (unmarked x.seen.now) x.listed.now x.t1.block x.t1.len l.o.block l.o.len l.i l.invariant.1 h e)
 
 mul-o : tie.Need-overflow-mul-o invariant-loop decreases-loop
 mul-o c =
@@ -43,7 +43,7 @@ mul-o c =
     let l = c.before.before.before.before.loop in
     let h : l.i < length x.listed.now = omega (arith, c.before.before.before.loop-test.true, s.requires.0) in
     let e = ap not (sym c.before.is-marked.ensures ∙ c.if1.false) in
-    let room = behind-room (unmarked x.seen.now) x.listed.now x.t1.block x.t1.len l.o.block l.o.len l.i l.invariant.1 h x.n c.before.before.before.loop-test.true s.requires.1 e in
+    let room = behind_room (unmarked x.seen.now) x.listed.now x.t1.block x.t1.len l.o.block l.o.len l.i l.invariant.1 h x.n c.before.before.before.loop-test.true s.requires.1 e in
     omega (arith, room)
 
 element-write-o : tie.Need-element-write-o invariant-loop decreases-loop
@@ -53,7 +53,7 @@ element-write-o c =
     let l = c.before.before.before.before.loop in
     let h : l.i < length x.listed.now = omega (arith, c.before.before.before.loop-test.true, s.requires.0) in
     let e = ap not (sym c.before.is-marked.ensures ∙ c.if1.false) in
-    let room = behind-room (unmarked x.seen.now) x.listed.now x.t1.block x.t1.len l.o.block l.o.len l.i l.invariant.1 h x.n c.before.before.before.loop-test.true s.requires.1 e in
+    let room = behind_room (unmarked x.seen.now) x.listed.now x.t1.block x.t1.len l.o.block l.o.len l.i l.invariant.1 h x.n c.before.before.before.loop-test.true s.requires.1 e in
     omega (arith, room)
 
 add-o : tie.Need-overflow-add-o invariant-loop decreases-loop
@@ -63,7 +63,7 @@ add-o c =
     let l = c.before.before.before.before.loop in
     let h : l.i < length x.listed.now = omega (arith, c.before.before.before.loop-test.true, s.requires.0) in
     let e = ap not (sym c.before.is-marked.ensures ∙ c.if1.false) in
-    let room = behind-room (unmarked x.seen.now) x.listed.now x.t1.block x.t1.len l.o.block l.o.len l.i l.invariant.1 h x.n c.before.before.before.loop-test.true s.requires.1 e in
+    let room = behind_room (unmarked x.seen.now) x.listed.now x.t1.block x.t1.len l.o.block l.o.len l.i l.invariant.1 h x.n c.before.before.before.loop-test.true s.requires.1 e in
     omega (arith, room)
 
 loop-again-2 : tie.Need-loop-preserved-2 invariant-loop decreases-loop
@@ -73,11 +73,11 @@ loop-again-2 c =
     let l = c.before.before.before.before.loop in
     let h : l.i < length x.listed.now = omega (arith, c.before.before.before.loop-test.true, s.requires.0) in
     let e = ap not (sym c.before.is-marked.ensures ∙ c.if1.false) in
-    let room = behind-room (unmarked x.seen.now) x.listed.now x.t1.block x.t1.len l.o.block l.o.len l.i l.invariant.1 h x.n c.before.before.before.loop-test.true s.requires.1 e in
-    (search rules, behind-yes (unmarked x.seen.now) x.listed.now x.t1.block x.t1.len l.o.block l.o.len l.i l.invariant.1 h room e)
+    let room = behind_room (unmarked x.seen.now) x.listed.now x.t1.block x.t1.len l.o.block l.o.len l.i l.invariant.1 h x.n c.before.before.before.loop-test.true s.requires.1 e in
+    (search rules, behind_yes (unmarked x.seen.now) x.listed.now x.t1.block x.t1.len l.o.block l.o.len l.i l.invariant.1 h room e)
 
 returns : tie.Need-returns invariant-loop decreases-loop
-unfolding inOrder
+unfolding in_order
 returns c =
     let x = c.before.before.args in
     let l = c.before.loop in

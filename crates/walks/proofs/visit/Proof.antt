@@ -3,28 +3,28 @@ use native.Mathlib.Omega.{arith}
 use mathlib.Core.Path.{sym, ap, ◌∙◌, subst}
 use mathlib.Core.List.{List, ◌∷◌}
 use Rattle.rules.proofs.StackWalk.{Frame}
-use Rattle.marks.proofs.SetLaws.{size-more}
+use Rattle.marks.proofs.SetLaws.{size_more}
 use Rattle.stack.specs.Frames.{frame}
-use Rattle.stack.proofs.FrameLaws.{frames-none}
+use Rattle.stack.proofs.FrameLaws.{frames_none}
 use Rattle.walks.specs.Walking.{Started}
-use Rattle.walks.proofs.VisitLaws.{begins-low, begins-started, visit-marked, visit-walks}
+use Rattle.walks.proofs.VisitLaws.{begins_low, begins_started, visit_marked, visit_walks}
 use borrow.Author.Rules.{rules}
 use Rattle.walks.proofs.visit.Statement.{statement}
 use Rattle.walks.proofs.visit.Tie as tie
 
 is-marked-requires : tie.Need-is-marked-requires
-is-marked-requires c κs = c.before.requires.1.seen-sized
+is-marked-requires c κs = c.before.requires.1.seen_sized
 
 returns : tie.Need-returns
 returns c =
     let s = c.before.before.before in
     let x = s.args in (
       s.requires.1,
-      visit-marked x.first.now x.count.now x.to.now x.root x.seen.now x.done.now x.finished (sym c.before.is-marked.ensures ∙ c.if1.true),
+      visit_marked x.first.now x.count.now x.to.now x.root x.seen.now x.done.now x.finished (sym c.before.is-marked.ensures ∙ c.if1.true),
     )
 
 mark-requires : tie.Need-mark-requires
-mark-requires c κs = let s = c.before.before.before.before in (s.requires.1.seen-sized, begins-low _ _ _ _ s.requires.0)
+mark-requires c κs = let s = c.before.before.before.before in (s.requires.1.seen_sized, begins_low _ _ _ _ s.requires.0)
 
 put-requires : tie.Need-put-requires
 put-requires c κs = search rules
@@ -35,13 +35,13 @@ walk-requires c κs =
     let x = s.args in
     let m = c.before.before.before.before.before.before.before.mark in
     let p = c.before.before.before.before.put in
-    let top = p.ensures.holds ∙ ap (λ (st : List Frame). frame x.root 0 ∷ st) (frames-none _ _ 0 (omega arith)) in
+    let top = p.ensures.holds ∙ ap (λ (st : List Frame). frame x.root 0 ∷ st) (frames_none _ _ 0 (omega arith)) in
     let new = sym c.before.before.before.before.before.before.before.before.before.before.is-marked.ensures ∙ c.before.before.before.before.before.before.before.before.before.if1.false in (
-      subst (Started x.first.now x.count.now x.to.now) (sym top) (begins-started _ _ _ _ s.requires.0),
+      subst (Started x.first.now x.count.now x.to.now) (sym top) (begins_started _ _ _ _ s.requires.0),
       (
         m.ensures.0,
-        s.requires.1.done-sized,
-        omega (arith, p.ensures.more, s.requires.1.counted, size-more x.seen.now _ x.root (begins-low _ _ _ _ s.requires.0) new m.ensures.1),
+        s.requires.1.done_sized,
+        omega (arith, p.ensures.more, s.requires.1.counted, size_more x.seen.now _ x.root (begins_low _ _ _ _ s.requires.0) new m.ensures.1),
         p.ensures.roomy,
       ),
     )
@@ -52,10 +52,10 @@ returns-2 c =
     let x = s.args in
     let m = c.before.before.before.before.before.before.before.before.mark in
     let p = c.before.before.before.before.before.put in
-    let top = p.ensures.holds ∙ ap (λ (st : List Frame). frame x.root 0 ∷ st) (frames-none _ _ 0 (omega arith)) in
+    let top = p.ensures.holds ∙ ap (λ (st : List Frame). frame x.root 0 ∷ st) (frames_none _ _ 0 (omega arith)) in
     let new = sym c.before.before.before.before.before.before.before.before.before.before.before.is-marked.ensures ∙ c.before.before.before.before.before.before.before.before.before.before.if1.false in (
       c.walk.ensures.0,
-      visit-walks x.first.now x.count.now x.to.now x.root x.seen.now x.done.now x.finished top _ _ _ _ new m.ensures.1 c.walk.ensures.1,
+      visit_walks x.first.now x.count.now x.to.now x.root x.seen.now x.done.now x.finished top _ _ _ _ new m.ensures.1 c.walk.ensures.1,
     )
 
 pub visit-spec : {M : Type 1} → statement M

@@ -4,7 +4,7 @@ use native.Mathlib.Omega.{arith}
 use mathlib.Core.Path.{◌≡◌, subst}
 use lib.ListN.{length}
 use Rattle.walks.specs.Walking.{Counts}
-use Rattle.walks.proofs.RootLaws.{counts-nothing, AllUpTo, all_start, root-begins, all_more}
+use Rattle.walks.proofs.RootLaws.{counts_nothing, AllUpTo, all_start, root_begins, all_more}
 use borrow.Author.Rules.{rules}
 use Rattle.walks.proofs.visit_all.Statement.{statement}
 use Rattle.walks.proofs.visit_all.Tie as tie
@@ -20,7 +20,7 @@ loop-holds c =
     let x = c.args in
     let e = c.requires.1 in (
       omega arith,
-      counts-nothing x.seen.now x.done.now e.2 e.0 e.1,
+      counts_nothing x.seen.now x.done.now e.2 e.0 e.1,
       all_start x.first.now x.count.now x.to.now x.listed.now x.n x.seen.now x.done.now e.2,
     )
 
@@ -29,7 +29,7 @@ visit-requires c κs =
     let s = c.before.before.before.before.before in
     let x = s.args in
     let l = c.before.before.before.before.loop in
-    (root-begins x.first.now x.count.now x.to.now x.listed.now x.n l.i c.before.before.before.loop-test.true s.requires.0.2, l.invariant.1)
+    (root_begins x.first.now x.count.now x.to.now x.listed.now x.n l.i c.before.before.before.loop-test.true s.requires.0.2, l.invariant.1)
 
 loop-again : tie.Need-loop-preserved invariant-loop decreases-loop
 loop-again c =

@@ -5,13 +5,13 @@ use mathlib.Core.Path.{◌≡◌, sym, ap, ◌∙◌, subst}
 use mathlib.Core.List.{List, ◌∷◌}
 use lib.ListN.{get_or}
 use Rattle.rules.proofs.StackWalk.{Frame}
-use Rattle.walks.specs.Walking.{lastFirst}
+use Rattle.walks.specs.Walking.{last_first}
 use Rattle.marks.specs.Sets.{size}
-use Rattle.marks.proofs.SetLaws.{size-most, size_room, size-more}
+use Rattle.marks.proofs.SetLaws.{size_most, size_room, size_more}
 use Rattle.stack.specs.Frames.{frame, frames, Roomy}
-use Rattle.stack.proofs.FrameLaws.{frames-none}
-use Rattle.walks.proofs.Measure.{owes, owes-end, owes-old, owes-new}
-use Rattle.walks.proofs.TurnLaws.{Going, going_start, going_end, top_within, top-next, turn_end, arm_low, turn-old, turn-new}
+use Rattle.stack.proofs.FrameLaws.{frames_none}
+use Rattle.walks.proofs.Measure.{owes, owes_end, owes_old, owes_new}
+use Rattle.walks.proofs.TurnLaws.{Going, going_start, going_end, top_within, top_next, turn_end, arm_low, turn_old, turn_new}
 use borrow.Author.Rules.{rules}
 use Rattle.walks.proofs.walk.Statement.{statement}
 use Rattle.walks.proofs.walk.Tie as tie
@@ -29,22 +29,22 @@ loop-holds c = (going_start c.requires.0 c.requires.1.0 c.requires.1.1, c.requir
 take-requires : tie.Need-take-requires invariant-loop decreases-loop
 take-requires c κs =
     let l = c.before.before.before.loop in
-    (c.before.before.loop-test.true, omega (arith, size-most l.seen), l.invariant.2)
+    (c.before.before.loop-test.true, omega (arith, size_most l.seen), l.invariant.2)
 
 mul-done : tie.Need-overflow-mul-done invariant-loop decreases-loop
 mul-done c =
     let l = c.before.before.before.before.before.before.loop in
-    omega (arith, size-most l.seen)
+    omega (arith, size_most l.seen)
 
 element-write-done : tie.Need-element-write-done invariant-loop decreases-loop
 element-write-done c =
     let l = c.before.before.before.before.before.before.loop in
-    omega (arith, size-most l.seen)
+    omega (arith, size_most l.seen)
 
 add_at : tie.Need-overflow-add-at invariant-loop decreases-loop
 add_at c =
     let l = c.before.before.before.before.before.before.loop in
-    omega (arith, size-most l.seen)
+    omega (arith, size_most l.seen)
 
 loop-less : tie.Need-loop-smaller invariant-loop decreases-loop
 loop-less c =
@@ -52,14 +52,14 @@ loop-less c =
     let p = c.before.before.take in
     let x = c.before.before.before.before.before.before.before.args in
     let h = subst (Going _ _ _ _ _ _ _ l.seen l.done l.at) p.ensures.held l.invariant.0 in
-    owes-end x.count.now l.seen p.ensures.held (top-next h)
+    owes_end x.count.now l.seen p.ensures.held (top_next h)
 
 loop-again : tie.Need-loop-preserved invariant-loop decreases-loop
 loop-again c =
     let l = c.before.before.before.before.before.before.loop in
     let p = c.before.before.take in
     let h = subst (Going _ _ _ _ _ _ _ l.seen l.done l.at) p.ensures.held l.invariant.0 in
-    (turn_end h (omega (arith, c.if1.true, c.before.entry_of.ensures)) (omega (arith, size-most l.seen)), omega (arith, p.ensures.less), p.ensures.roomy)
+    (turn_end h (omega (arith, c.if1.true, c.before.entry_of.ensures)) (omega (arith, size_most l.seen)), omega (arith, p.ensures.less), p.ensures.roomy)
 
 leads-to-requires : tie.Need-leads-to-requires invariant-loop decreases-loop
 leads-to-requires c κs =
@@ -67,11 +67,11 @@ leads-to-requires c κs =
     let p = c.before.before.take in
     let pre = c.before.before.before.before.before.before.before.requires in
     let h = subst (Going _ _ _ _ _ _ _ l.seen l.done l.at) p.ensures.held l.invariant.0 in
-    (pre.0.has.first-sized, pre.0.has.to-sized, omega (arith, top_within h, c.before.entry_of.ensures), c.if1.false)
+    (pre.0.has.first_sized, pre.0.has.to_sized, omega (arith, top_within h, c.before.entry_of.ensures), c.if1.false)
 
 is-marked-requires : tie.Need-is-marked-requires invariant-loop decreases-loop
 is-marked-requires c κs =
-    c.before.before.before.before.before.before.before.before.loop.invariant.0.seen-sized
+    c.before.before.before.before.before.before.before.before.loop.invariant.0.seen_sized
 
 add-put : tie.Need-overflow-add-put invariant-loop decreases-loop
 add-put c =
@@ -84,7 +84,7 @@ put-requires : tie.Need-put-requires invariant-loop decreases-loop
 put-requires c κs =
     let l = c.before.before.before.before.before.before.before.before.before.before.before.before.loop in
     let p = c.before.before.before.before.before.before.before.before.take in
-    (omega (arith, p.ensures.less, l.invariant.1, size-most l.seen), p.ensures.roomy)
+    (omega (arith, p.ensures.less, l.invariant.1, size_most l.seen), p.ensures.roomy)
 
 loop-less-2 : tie.Need-loop-smaller-2 invariant-loop decreases-loop
 loop-less-2 c =
@@ -92,7 +92,7 @@ loop-less-2 c =
     let p = c.before.before.before.before.before.before.before.before.before.take in
     let x = c.before.before.before.before.before.before.before.before.before.before.before.before.before.before.args in
     let lt : p.result.arm < get_or x.count.now p.result.block 0 = omega (arith, c.before.before.before.before.before.before.before.if1.false, c.before.before.before.before.before.before.before.before.entry_of.ensures) in
-    owes-old x.count.now l.seen p.ensures.held c.put.ensures.holds lt
+    owes_old x.count.now l.seen p.ensures.held c.put.ensures.holds lt
 
 loop-again-2 : tie.Need-loop-preserved-2 invariant-loop decreases-loop
 loop-again-2 c =
@@ -102,8 +102,8 @@ loop-again-2 c =
     let h = subst (Going _ _ _ _ _ _ _ l.seen l.done l.at) p.ensures.held l.invariant.0 in
     let lt : p.result.arm < get_or x.count.now p.result.block 0 = omega (arith, c.before.before.before.before.before.before.before.if1.false, c.before.before.before.before.before.before.before.before.entry_of.ensures) in
     let t = c.before.before.before.before.before.before.leads-to in
-    let is = t.ensures ∙ ap (λ (k : ℕ). get_or (lastFirst x.to.now (get_or x.first.now p.result.block 0) k) p.result.arm 0) c.before.before.before.before.before.before.before.before.entry_of.ensures in (
-      subst (Going _ _ _ _ _ _ _ l.seen l.done l.at) (sym c.put.ensures.holds) (turn-old h _ lt is (sym c.before.before.before.before.is-marked.ensures ∙ c.before.before.before.if2.true)),
+    let is = t.ensures ∙ ap (λ (k : ℕ). get_or (last_first x.to.now (get_or x.first.now p.result.block 0) k) p.result.arm 0) c.before.before.before.before.before.before.before.before.entry_of.ensures in (
+      subst (Going _ _ _ _ _ _ _ l.seen l.done l.at) (sym c.put.ensures.holds) (turn_old h _ lt is (sym c.before.before.before.before.is-marked.ensures ∙ c.before.before.before.if2.true)),
       omega (arith, p.ensures.less, c.put.ensures.more, l.invariant.1),
       c.put.ensures.roomy,
     )
@@ -116,8 +116,8 @@ mark-requires c κs =
     let h = subst (Going _ _ _ _ _ _ _ l.seen l.done l.at) p.ensures.held l.invariant.0 in
     let lt : p.result.arm < get_or x.count.now p.result.block 0 = omega (arith, c.before.before.before.before.before.if1.false, c.before.before.before.before.before.before.entry_of.ensures) in
     let t = c.before.before.before.before.leads-to in
-    let is = t.ensures ∙ ap (λ (k : ℕ). get_or (lastFirst x.to.now (get_or x.first.now p.result.block 0) k) p.result.arm 0) c.before.before.before.before.before.before.entry_of.ensures in
-    (l.invariant.0.seen-sized, arm_low h _ lt is)
+    let is = t.ensures ∙ ap (λ (k : ℕ). get_or (last_first x.to.now (get_or x.first.now p.result.block 0) k) p.result.arm 0) c.before.before.before.before.before.before.entry_of.ensures in
+    (l.invariant.0.seen_sized, arm_low h _ lt is)
 
 add-put-2 : tie.Need-overflow-add-put-2 invariant-loop decreases-loop
 add-put-2 c =
@@ -130,7 +130,7 @@ put-requires-2 : tie.Need-put-requires-2 invariant-loop decreases-loop
 put-requires-2 c κs =
     let l = c.before.before.before.before.before.before.before.before.before.before.before.before.before.before.loop in
     let p = c.before.before.before.before.before.before.before.before.before.before.take in
-    (omega (arith, p.ensures.less, l.invariant.1, size-most l.seen), p.ensures.roomy)
+    (omega (arith, p.ensures.less, l.invariant.1, size_most l.seen), p.ensures.roomy)
 
 put-requires-3 : tie.Need-put-requires-3 invariant-loop decreases-loop
 put-requires-3 c κs =
@@ -140,7 +140,7 @@ put-requires-3 c κs =
     let h = subst (Going _ _ _ _ _ _ _ l.seen l.done l.at) p.ensures.held l.invariant.0 in
     let lt : p.result.arm < get_or x.count.now p.result.block 0 = omega (arith, c.before.before.before.before.before.before.before.before.before.before.before.if1.false, c.before.before.before.before.before.before.before.before.before.before.before.before.entry_of.ensures) in
     let t = c.before.before.before.before.before.before.before.before.before.before.leads-to in
-    let is = t.ensures ∙ ap (λ (k : ℕ). get_or (lastFirst x.to.now (get_or x.first.now p.result.block 0) k) p.result.arm 0) c.before.before.before.before.before.before.before.before.before.before.before.before.entry_of.ensures in
+    let is = t.ensures ∙ ap (λ (k : ℕ). get_or (last_first x.to.now (get_or x.first.now p.result.block 0) k) p.result.arm 0) c.before.before.before.before.before.before.before.before.before.before.before.before.entry_of.ensures in
     let new = sym c.before.before.before.before.before.before.before.before.is-marked.ensures ∙ c.before.before.before.before.before.before.before.if2.false in
     (omega (arith, p.ensures.less, c.before.before.put2.ensures.more, l.invariant.1, size_room l.seen t.result (arm_low h _ lt is) new), c.before.before.put2.ensures.roomy)
 
@@ -152,9 +152,9 @@ loop-less-3 c =
     let h = subst (Going _ _ _ _ _ _ _ l.seen l.done l.at) p.ensures.held l.invariant.0 in
     let lt : p.result.arm < get_or x.count.now p.result.block 0 = omega (arith, c.before.before.before.before.before.before.before.before.before.before.before.before.if1.false, c.before.before.before.before.before.before.before.before.before.before.before.before.before.entry_of.ensures) in
     let t = c.before.before.before.before.before.before.before.before.before.before.before.leads-to in
-    let is = t.ensures ∙ ap (λ (k : ℕ). get_or (lastFirst x.to.now (get_or x.first.now p.result.block 0) k) p.result.arm 0) c.before.before.before.before.before.before.before.before.before.before.before.before.before.entry_of.ensures in
+    let is = t.ensures ∙ ap (λ (k : ℕ). get_or (last_first x.to.now (get_or x.first.now p.result.block 0) k) p.result.arm 0) c.before.before.before.before.before.before.before.before.before.before.before.before.before.entry_of.ensures in
     let new = sym c.before.before.before.before.before.before.before.before.before.is-marked.ensures ∙ c.before.before.before.before.before.before.before.before.if2.false in
-    owes-new x.count.now l.seen p.ensures.held _ c.before.before.before.put2.ensures.holds c.put3.ensures.holds lt (arm_low h _ lt is) new c.before.before.before.before.before.before.mark.ensures.1
+    owes_new x.count.now l.seen p.ensures.held _ c.before.before.before.put2.ensures.holds c.put3.ensures.holds lt (arm_low h _ lt is) new c.before.before.before.before.before.before.mark.ensures.1
 
 loop-again-3 : tie.Need-loop-preserved-3 invariant-loop decreases-loop
 loop-again-3 c =
@@ -164,18 +164,18 @@ loop-again-3 c =
     let h = subst (Going _ _ _ _ _ _ _ l.seen l.done l.at) p.ensures.held l.invariant.0 in
     let lt : p.result.arm < get_or x.count.now p.result.block 0 = omega (arith, c.before.before.before.before.before.before.before.before.before.before.before.before.if1.false, c.before.before.before.before.before.before.before.before.before.before.before.before.before.entry_of.ensures) in
     let t = c.before.before.before.before.before.before.before.before.before.before.before.leads-to in
-    let is = t.ensures ∙ ap (λ (k : ℕ). get_or (lastFirst x.to.now (get_or x.first.now p.result.block 0) k) p.result.arm 0) c.before.before.before.before.before.before.before.before.before.before.before.before.before.entry_of.ensures in
+    let is = t.ensures ∙ ap (λ (k : ℕ). get_or (last_first x.to.now (get_or x.first.now p.result.block 0) k) p.result.arm 0) c.before.before.before.before.before.before.before.before.before.before.before.before.before.entry_of.ensures in
     let new = sym c.before.before.before.before.before.before.before.before.before.is-marked.ensures ∙ c.before.before.before.before.before.before.before.before.if2.false in (
-      subst (Going _ _ _ _ _ _ _ _ l.done l.at) (sym (c.put3.ensures.holds ∙ ap (λ (st : List Frame). frame t.result 0 ∷ st) c.before.before.before.put2.ensures.holds)) (turn-new h _ lt is _ c.before.before.before.before.before.before.mark.ensures.0 new c.before.before.before.before.before.before.mark.ensures.1),
-      omega (arith, p.ensures.less, c.before.before.before.put2.ensures.more, c.put3.ensures.more, l.invariant.1, size-more l.seen _ t.result (arm_low h _ lt is) new c.before.before.before.before.before.before.mark.ensures.1),
+      subst (Going _ _ _ _ _ _ _ _ l.done l.at) (sym (c.put3.ensures.holds ∙ ap (λ (st : List Frame). frame t.result 0 ∷ st) c.before.before.before.put2.ensures.holds)) (turn_new h _ lt is _ c.before.before.before.before.before.before.mark.ensures.0 new c.before.before.before.before.before.before.mark.ensures.1),
+      omega (arith, p.ensures.less, c.before.before.before.put2.ensures.more, c.put3.ensures.more, l.invariant.1, size_more l.seen _ t.result (arm_low h _ lt is) new c.before.before.before.before.before.before.mark.ensures.1),
       c.put3.ensures.roomy,
     )
 
 returns : tie.Need-returns invariant-loop decreases-loop
 returns c =
     let l = c.before.loop in
-    let none = frames-none l.waiting l.started l.len (omega arith) in
-    (record { seen-sized = l.invariant.0.seen-sized; done-sized = l.invariant.0.done-sized; counted = omega arith }, going_end l.seen l.done l.at (subst (Going _ _ _ _ _ _ _ l.seen l.done l.at) none l.invariant.0))
+    let none = frames_none l.waiting l.started l.len (omega arith) in
+    (record { seen_sized = l.invariant.0.seen_sized; done_sized = l.invariant.0.done_sized; counted = omega arith }, going_end l.seen l.done l.at (subst (Going _ _ _ _ _ _ _ l.seen l.done l.at) none l.invariant.0))
 
 pub walk-spec : {M : Type 1} → statement M
 walk-spec =

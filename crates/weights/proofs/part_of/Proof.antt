@@ -6,7 +6,7 @@ use lib.Dec.{leb}
 use borrow.Author.Rules.{rules}
 use borrow.Author.Tests.{leb-true, leb-false}
 use Rattle.rules.specs.Weights.{scale}
-use Rattle.weights.proofs.ShareLaws.{part-below, part-share}
+use Rattle.weights.proofs.ShareLaws.{part_below, part_share}
 use Rattle.weights.proofs.part_of.Statement.{statement}
 use Rattle.weights.proofs.part_of.Tie as tie
 
@@ -17,20 +17,20 @@ abbrev decreases-loop : tie.decreases-loop
 decreases-loop r whole low₀ high₀ low high = high - low
 
 loop-holds : tie.Need-loop-init invariant-loop decreases-loop
-loop-holds c = (search rules, search rules, search rules, part-below c.args.r c.args.whole c.requires)
+loop-holds c = (search rules, search rules, search rules, part_below c.args.r c.args.whole c.requires)
 
 loop-again : tie.Need-loop-preserved invariant-loop decreases-loop
 loop-again c =
     let s = c.before.before.before.before in
     let l = c.before.before.before.loop in
-    let e = sym (ap (leb _) (part-share s.args.r s.args.whole s.requires)) ∙ sym c.before.at_least_lem.ensures in
+    let e = sym (ap (leb _) (part_share s.args.r s.args.whole s.requires)) ∙ sym c.before.at_least_lem.ensures in
     (omega arith, l.invariant.1, leb-true _ _ (e ∙ c.if1.true), l.invariant.3)
 
 loop-again-2 : tie.Need-loop-preserved-2 invariant-loop decreases-loop
 loop-again-2 c =
     let s = c.before.before.before.before in
     let l = c.before.before.before.loop in
-    let e = sym (ap (leb _) (part-share s.args.r s.args.whole s.requires)) ∙ sym c.before.at_least_lem.ensures in
+    let e = sym (ap (leb _) (part_share s.args.r s.args.whole s.requires)) ∙ sym c.before.at_least_lem.ensures in
     (omega arith, omega arith, l.invariant.2, leb-false _ _ (e ∙ c.if1.false))
 
 returns : tie.Need-returns invariant-loop decreases-loop

@@ -3,8 +3,8 @@ use Prim.Native.Nat.{ℕ, ◌+◌, ◌-◌, ◌≤◌}
 use native.Mathlib.Omega.{arith}
 use mathlib.Core.Path.{◌≡◌, sym, subst}
 use lib.ListN.{get_or}
-use Rattle.cold.specs.Ways.{mostCount, toward, Added}
-use Rattle.cold.proofs.WayLaws.{toward-in, add_none, add-room, add-more}
+use Rattle.cold.specs.Ways.{most_count, toward, Added}
+use Rattle.cold.proofs.WayLaws.{toward_in, add_none, add_room, add_more}
 use borrow.Author.Rules.{rules}
 use Rattle.cold.proofs.ways.add_arms.Statement.{statement}
 use Rattle.cold.proofs.ways.add_arms.Tie as tie
@@ -21,37 +21,37 @@ loop-holds c = (search rules, add_none c.args.to.now c.args.first c.args.table.n
 mul-table : tie.Need-overflow-mul-table invariant-loop decreases-loop
 mul-table c =
     let x = c.before.before.before.before.args in
-    omega (arith, c.wide.ensures, c.before.before.before.before.requires.0.2 _ (toward-in x.to.now x.first c.before.before.before.loop.j x.count (omega arith)))
+    omega (arith, c.wide.ensures, c.before.before.before.before.requires.0.2 _ (toward_in x.to.now x.first c.before.before.before.loop.j x.count (omega arith)))
 
 element-copy-out-table : tie.Need-element-copy-out-table invariant-loop decreases-loop
 element-copy-out-table c =
     let x = c.before.before.before.before.args in
-    omega (arith, c.wide.ensures, c.before.before.before.before.requires.0.2 _ (toward-in x.to.now x.first c.before.before.before.loop.j x.count (omega arith)))
+    omega (arith, c.wide.ensures, c.before.before.before.before.requires.0.2 _ (toward_in x.to.now x.first c.before.before.before.loop.j x.count (omega arith)))
 
 add-table : tie.Need-overflow-add-table invariant-loop decreases-loop
 add-table c =
     let x = c.before.before.before.before.before.args in
     let l = c.before.before.before.before.loop in
-    let room = add-room x.to.now x.first l.j x.table.now l.table l.invariant.1 x.count (omega arith) c.before.before.before.before.before.requires.1 in
-    omega (arith, subst (λ (k : ℕ). get_or l.table k 0 + 1 ≤ mostCount) (sym c.before.wide.ensures) room)
+    let room = add_room x.to.now x.first l.j x.table.now l.table l.invariant.1 x.count (omega arith) c.before.before.before.before.before.requires.1 in
+    omega (arith, subst (λ (k : ℕ). get_or l.table k 0 + 1 ≤ most_count) (sym c.before.wide.ensures) room)
 
 mul-table-2 : tie.Need-overflow-mul-table-2 invariant-loop decreases-loop
 mul-table-2 c =
     let x = c.before.before.before.before.before.args in
-    omega (arith, c.before.wide.ensures, c.before.before.before.before.before.requires.0.2 _ (toward-in x.to.now x.first c.before.before.before.before.loop.j x.count (omega arith)))
+    omega (arith, c.before.wide.ensures, c.before.before.before.before.before.requires.0.2 _ (toward_in x.to.now x.first c.before.before.before.before.loop.j x.count (omega arith)))
 
 element-write-table : tie.Need-element-write-table invariant-loop decreases-loop
 element-write-table c =
     let x = c.before.before.before.before.before.args in
-    omega (arith, c.before.wide.ensures, c.before.before.before.before.before.requires.0.2 _ (toward-in x.to.now x.first c.before.before.before.before.loop.j x.count (omega arith)))
+    omega (arith, c.before.wide.ensures, c.before.before.before.before.before.requires.0.2 _ (toward_in x.to.now x.first c.before.before.before.before.loop.j x.count (omega arith)))
 
 loop-again : tie.Need-loop-preserved invariant-loop decreases-loop
 loop-again c =
     let x = c.before.before.before.before.before.args in
     let l = c.before.before.before.before.loop in
     let p = c.before.before.before.before.before.requires in
-    let small = p.0.2 _ (toward-in x.to.now x.first l.j x.count (omega arith)) in
-    (search rules, rw c.before.wide.ensures (add-more x.to.now x.first l.j x.table.now l.table l.invariant.1 (omega (arith, small, l.invariant.1.sized, p.0.1))))
+    let small = p.0.2 _ (toward_in x.to.now x.first l.j x.count (omega arith)) in
+    (search rules, rw c.before.wide.ensures (add_more x.to.now x.first l.j x.table.now l.table l.invariant.1 (omega (arith, small, l.invariant.1.sized, p.0.1))))
 
 returns : tie.Need-returns invariant-loop decreases-loop
 returns c =

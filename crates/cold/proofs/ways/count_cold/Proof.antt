@@ -3,15 +3,15 @@ use Prim.Native.Nat.{ℕ, ◌-◌, ◌≤◌}
 use native.Mathlib.Omega.{arith}
 use mathlib.Core.Path.{◌≡◌, ap, ◌∙◌, subst}
 use mathlib.Core.Bool.{cond}
-use Rattle.rules.specs.Graph.{isCold}
-use Rattle.cold.specs.Ways.{links, coldIns, Counts}
-use Rattle.cold.proofs.WayLaws.{cold-more, cold-room, none-cold}
+use Rattle.rules.specs.Graph.{is_cold}
+use Rattle.cold.specs.Ways.{links, cold_ins, Counts}
+use Rattle.cold.proofs.WayLaws.{cold_more, cold_room, none_cold}
 use borrow.Author.Rules.{rules}
 use Rattle.cold.proofs.ways.count_cold.Statement.{statement}
 use Rattle.cold.proofs.ways.count_cold.Tie as tie
 
 abbrev invariant-loop : tie.invariant-loop
-invariant-loop listed marks first count to n table₀ i₀ table i = (i ≤ n) × Counts table (coldIns (links listed first count to n) marks i)
+invariant-loop listed marks first count to n table₀ i₀ table i = (i ≤ n) × Counts table (cold_ins (links listed first count to n) marks i)
 
 abbrev decreases-loop : tie.decreases-loop
 decreases-loop listed marks first count to n table₀ i₀ table i = n - i
@@ -19,7 +19,7 @@ decreases-loop listed marks first count to n table₀ i₀ table i = n - i
 loop-holds : tie.Need-loop-init invariant-loop decreases-loop
 loop-holds c =
     let x = c.args in
-    (search rules, none-cold (links x.listed.now x.first.now x.count.now x.to.now x.n) x.marks.now x.table.now c.requires.1)
+    (search rules, none_cold (links x.listed.now x.first.now x.count.now x.to.now x.n) x.marks.now x.table.now c.requires.1)
 
 byte-of-requires : tie.Need-byte-of-requires invariant-loop decreases-loop
 byte-of-requires c κs = c.before.before.before.requires.0.1
@@ -36,8 +36,8 @@ add-arms-requires c κs =
     let x = c.before.before.before.before.before.before.before.before.args in
     let w = links x.listed.now x.first.now x.count.now x.to.now x.n in
     let count = c.before.before.before.entry_of in
-    cold-room w c.before.before.before.before.before.before.before.before.requires.0.0 l.i (omega arith) l.table _ count.result c.before.entry-of2.ensures count.ensures x.marks.now _
-    (c.before.before.cold-arms.ensures ∙ ap (λ (m : ℕ). cond (isCold m) count.result 0) c.before.before.before.before.byte_of.ensures) l.invariant.1
+    cold_room w c.before.before.before.before.before.before.before.before.requires.0.0 l.i (omega arith) l.table _ count.result c.before.entry-of2.ensures count.ensures x.marks.now _
+    (c.before.before.cold-arms.ensures ∙ ap (λ (m : ℕ). cond (is_cold m) count.result 0) c.before.before.before.before.byte_of.ensures) l.invariant.1
 
 loop-again : tie.Need-loop-preserved invariant-loop decreases-loop
 loop-again c =
@@ -46,8 +46,8 @@ loop-again c =
     let w = links x.listed.now x.first.now x.count.now x.to.now x.n in
     let count = c.before.before.before.before.entry_of in (
       search rules,
-      cold-more w x.marks.now l.i _ count.result _ l.table _ c.before.before.entry-of2.ensures count.ensures
-          (c.before.before.before.cold-arms.ensures ∙ ap (λ (m : ℕ). cond (isCold m) count.result 0) c.before.before.before.before.before.byte_of.ensures) l.invariant.1 c.add-arms.ensures,
+      cold_more w x.marks.now l.i _ count.result _ l.table _ c.before.before.entry-of2.ensures count.ensures
+          (c.before.before.before.cold-arms.ensures ∙ ap (λ (m : ℕ). cond (is_cold m) count.result 0) c.before.before.before.before.before.byte_of.ensures) l.invariant.1 c.add-arms.ensures,
     )
 
 returns : tie.Need-returns invariant-loop decreases-loop
@@ -55,7 +55,7 @@ returns c =
     let l = c.before.loop in
     let x = c.before.before.args in
     let e : l.i ≡ x.n = omega (arith, l.invariant.0) in
-    subst (λ (i : ℕ). Counts l.table (coldIns (links x.listed.now x.first.now x.count.now x.to.now x.n) x.marks.now i)) e l.invariant.1
+    subst (λ (i : ℕ). Counts l.table (cold_ins (links x.listed.now x.first.now x.count.now x.to.now x.n) x.marks.now i)) e l.invariant.1
 
 pub count-cold-spec : {M : Type 1} → statement M
 count-cold-spec =

@@ -3,7 +3,7 @@ use Prim.Native.Nat.{ℕ, ◌-◌, ◌≤◌}
 use native.Mathlib.Omega.{arith}
 use mathlib.Core.Path.{◌≡◌, subst}
 use Rattle.cold.specs.Ways.{links, ins, Counts}
-use Rattle.cold.proofs.WayLaws.{ins-more, ins-room, none_in}
+use Rattle.cold.proofs.WayLaws.{ins_more, ins_room, none_in}
 use borrow.Author.Rules.{rules}
 use Rattle.cold.proofs.ways.count_ins.Statement.{statement}
 use Rattle.cold.proofs.ways.count_ins.Tie as tie
@@ -30,7 +30,7 @@ add-arms-requires c κs =
     let l = c.before.before.before.before.before.loop in
     let x = c.before.before.before.before.before.before.args in
     let w = links x.listed.now x.first.now x.count.now x.to.now x.n in
-    ins-room w c.before.before.before.before.before.before.requires.0 l.i (omega arith) l.table _ _ c.before.before.entry_of.ensures c.before.entry-of2.ensures l.invariant.1
+    ins_room w c.before.before.before.before.before.before.requires.0 l.i (omega arith) l.table _ _ c.before.before.entry_of.ensures c.before.entry-of2.ensures l.invariant.1
 
 loop-again : tie.Need-loop-preserved invariant-loop decreases-loop
 loop-again c =
@@ -38,7 +38,7 @@ loop-again c =
     let x = c.before.before.before.before.before.before.before.args in
     let w = links x.listed.now x.first.now x.count.now x.to.now x.n in (
       search rules,
-      ins-more w l.i _ _ l.table _ c.before.before.before.entry_of.ensures c.before.before.entry-of2.ensures l.invariant.1 c.add-arms.ensures,
+      ins_more w l.i _ _ l.table _ c.before.before.before.entry_of.ensures c.before.before.entry-of2.ensures l.invariant.1 c.add-arms.ensures,
     )
 
 returns : tie.Need-returns invariant-loop decreases-loop
