@@ -17,7 +17,7 @@ use Rattle.rules.specs.Graph as graph
 use Rattle.rules.specs.Graph.{Arm, is_walking, names}
 use Rattle.rules.specs.Weights.{over_four_fifths}
 use Rattle.rules.specs.Rotate.{back_arm, lead_in, cycle, turns, WayOut, worse, ways_out, turned, rotate}
-use Rattle.rules.proofs.Membership.{In, best_in_lem, map-In, append-In, In-right}
+use Rattle.rules.proofs.Membership.{In, best_in, map-In, append-In, In-right}
 use Rattle.rules.proofs.Wholeness.{block_in, arm_target}
 use Rattle.rules.proofs.RotateLast.{no_exit}
 use Rattle.records.specs.declared.Arms.{Arms}
@@ -66,7 +66,7 @@ turn_fits a preferred inside order p e r x y i lt le q h =
     let part : List ℕ = slice p e order in
     let b : best worse none (ways_from a preferred inside 0 part) ≡ some (way x y i) = sym h ∙ ap way_of q in
     ⊎_elim (λ z. absurd (let y : ◌≡◌ {A = ℕ} 0 1 = cc in omega arith)) (λ j. omega (arith, lt, way_from a preferred inside 0 part (way x y i) j, length-slice p e order le))
-    (best_in_lem worse none (ways_from a preferred inside 0 part) (way x y i) b)
+    (best_in worse none (ways_from a preferred inside 0 part) (way x y i) b)
 
 -- ---- tests
 any_same : (p q : ℕ → Bool) (l : List ℕ) → ((n : ℕ) → In n l → p n ≡ q n) → any p l ≡ any q l
@@ -149,7 +149,7 @@ module _ {t : Graph} {marks weight first count to heft : List ℕ} (l : Flows t 
   back_of_lem n x i e =
       let b = graph.block_at (tabled t) n in
       ⊎_elim (λ z. absurd (let y : ◌≡◌ {A = ℕ} 0 1 = cc in omega arith)) (λ j. l.whole b (block_in (tabled t) n i).0 x.to (arm_target b x j))
-      (best_in_lem (λ (x y : Arm). leb x.weight y.weight) none b.arms x e)
+      (best_in (λ (x y : Arm). leb x.weight y.weight) none b.arms x e)
 
   -- the tests of the rule
   module _ (o : List ℕ) (s e entry : ℕ) (named_so : optional entry ≡ graph.entry (tabled t)) (all : AllOf t (slice s e o)) (last : ℕ) (a : Arm) (to_of : Of t a.to) (p : ℕ) (f : Finds o s e a.to p) (le : e ≤ length o) where

@@ -13,7 +13,7 @@ use Rattle.rules.specs.Lists.{first_or, last_or, concat, mem, range}
 use Rattle.rules.specs.Graph.{Arm, Graph, block_at, cold_at, numbers_of}
 use Rattle.rules.specs.Traces.{traces}
 use Rattle.rules.specs.Join.{Link, looser, starting_at, links, next_trace, follow, connect_from, connect}
-use Rattle.rules.proofs.Membership.{In, or_l, test, mem→, best_in_lem}
+use Rattle.rules.proofs.Membership.{In, or_l, test, mem→, best_in}
 use Rattle.rules.proofs.Counting.{tally, tally_append, tally_reverse, count, range_once, range_above, Once, count_zero, In→count, fresh, sum_by, perm_sum}
 use Rattle.rules.proofs.Wholeness.{Whole}
 use Rattle.rules.proofs.TracesOnce.{traces_once}
@@ -80,7 +80,7 @@ module _ (g : Graph) (ts : List (List ℕ)) where
 
   pub next_ok : (used : List ℕ) (i : ℕ) (e : Link) → next_trace g ts used i ≡ some e → T (not (mem e.index used)) × (e.index < length ts)
   unfolding next_trace
-  next_ok used i e q = ⊎_elim (λ z. absurd (let y : ◌≡◌ {A = ℕ} 0 1 = cc in omega arith)) (links_ok used (cold_at g n) (block_at g n).arms e) (best_in_lem looser none (links g ts used (cold_at g n) (block_at g n).arms) e q)
+  next_ok used i e q = ⊎_elim (λ z. absurd (let y : ◌≡◌ {A = ℕ} 0 1 = cc in omega arith)) (links_ok used (cold_at g n) (block_at g n).arms e) (best_in looser none (links g ts used (cold_at g n) (block_at g n).arms) e q)
     where
       n : ℕ
       n = last_or blocks (get_or ts i [])

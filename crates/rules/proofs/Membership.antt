@@ -112,11 +112,11 @@ unfolding mem
 -- ---- the best of a list is one of it
 
 module _ {A : Type 0} (less : A → A → Bool) where
-  pub best_in_lem : (b : Option A) (l : List A) (x : A) → best less b l ≡ some x → (b ≡ some x) ⊎ In x l
+  pub best_in : (b : Option A) (l : List A) (x : A) → best less b l ≡ some x → (b ≡ some x) ⊎ In x l
   unfolding best
-  best_in_lem b [] x e = inl e
-  best_in_lem none (y ∷ l) x e = ⊎_elim (λ q. inr (inl (cc))) (λ i. inr (inr i)) (best_in_lem (some y) l x e)
-  best_in_lem (some b) (y ∷ l) x e = go (λ c. best_in_lem c l x) (less b y) e
+  best_in b [] x e = inl e
+  best_in none (y ∷ l) x e = ⊎_elim (λ q. inr (inl (cc))) (λ i. inr (inr i)) (best_in (some y) l x e)
+  best_in (some b) (y ∷ l) x e = go (λ c. best_in c l x) (less b y) e
     where
       go : ((c : Option A) → best less c l ≡ some x → (c ≡ some x) ⊎ In x l) → (t : Bool) → best less (elim t [ true ↦ some y | false ↦ some b ]) l ≡ some x → (some b ≡ some x) ⊎ ((x ≡ y) ⊎ In x l)
       go ih true e = ⊎_elim (λ q. inr (inl (cc))) (λ i. inr (inr i)) (ih (some y) e)

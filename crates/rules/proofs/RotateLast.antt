@@ -11,7 +11,7 @@ use lib.ListN.{length, get_or, take, drop, length-take}
 use Rattle.rules.specs.Lists.{keep, best, last_or, mem}
 use Rattle.rules.specs.Graph.{Arm, Graph, block_at}
 use Rattle.rules.specs.Rotate.{WayOut, worse, ways_out, turned}
-use Rattle.rules.proofs.Membership.{In, best_in_lem, map-In, append-In}
+use Rattle.rules.proofs.Membership.{In, best_in, map-In, append-In}
 
 last_append : (d : ℕ) (xs ys : List ℕ) → 0 < length ys → last_or d (xs ++ ys) ≡ last_or d ys
 unfolding last_or
@@ -55,7 +55,7 @@ module _ (g : Graph) (preferred : ℕ → Bool) (part : List ℕ) where
   pub exit_last : (w : WayOut) → best worse none (ways_out g preferred part 0 part) ≡ some w → (d : ℕ) → last_or d (turned g preferred part) ≡ get_or part w.index d
   unfolding turned
   exit_last w e d =
-      let i = ⊎_elim (λ q. absurd (let z : ◌≡◌ {A = ℕ} 0 1 = cc in omega arith)) (λ j. way_index g preferred part 0 part w j) (best_in_lem worse none (ways_out g preferred part 0 part) w e) in
+      let i = ⊎_elim (λ q. absurd (let z : ◌≡◌ {A = ℕ} 0 1 = cc in omega arith)) (λ j. way_index g preferred part 0 part w j) (best_in worse none (ways_out g preferred part 0 part) w e) in
       let k : w.index + 1 ≡ suc w.index = omega arith in
       ap (λ (o : Option WayOut). last_or d (turn o)) e
       ∙ last_append d (drop (w.index + 1) part) (take (w.index + 1) part) (omega (arith, length-take (w.index + 1) part, i.1))

@@ -15,7 +15,7 @@ use Rattle.rules.specs.PlainOrder.{order}
 use Rattle.rules.specs.Weights.{floor}
 use Rattle.rules.specs.Rotate.{back_arm, lead_in, cycle, turns, WayOut, worse, ways_out, turned, rotate}
 use Rattle.rules.specs.Traces.{round_one, rounds, floor_of, fits, lighter, along, extend, Seed, seed_of, below, startable, next_seed, Traced, no_traces, trace_from, fill, entry_trace, in_round, traces}
-use Rattle.rules.proofs.Membership.{In, and_l, and_r, and_i, test, keep→, →keep, mem→, →mem, best_in_lem, best_none, In-map, map-In, append-In, In-left, In-right}
+use Rattle.rules.proofs.Membership.{In, and_l, and_r, and_i, test, keep→, →keep, mem→, →mem, best_in, best_none, In-map, map-In, append-In, In-left, In-right}
 use Rattle.rules.proofs.Counting.{tally, tally_lt, tally_pos, tally_len, tally_append, tally_turn, count, Once, count_zero, In→count, count→In, fresh, concat_append}
 use Rattle.rules.proofs.Wholeness.{Whole, block_in, entry_in, arm_target}
 use Rattle.rules.proofs.PlainOnce.{plain_once}
@@ -73,7 +73,7 @@ module _ (g : Graph) (w : Whole g) (likely low : ℕ) where
   pub along_ok : (laid : List ℕ) (b : Block) (a : Arm) → along g laid likely low b ≡ some a → In a b.arms × T (not (mem a.to laid))
   unfolding along
   along_ok laid b a e = ⊎_elim (λ q. absurd (let z : ◌≡◌ {A = ℕ} 0 1 = cc in omega arith)) (λ i. let r = keep→ (fits g laid likely low b) b.arms a i in (r.0, fits_new laid b a r.1))
-      (best_in_lem lighter none (keep (fits g laid likely low b) b.arms) a e)
+      (best_in lighter none (keep (fits g laid likely low b) b.arms) a e)
 
   pub record Grown (laid : List ℕ) (n : ℕ) (t : List ℕ) : Type 0 where
     pub once : Once (t ++ laid)
@@ -143,7 +143,7 @@ module _ (g : Graph) (w : Whole g) (d : Once (numbers_of g)) where
       let k = keep→ (startable g laid low) o r.0 r.1 in
       let same : e.block ≡ r.0 = ap (λ (x : Seed). x.block) r.2 in
       (subst (λ (x : ℕ). In x o) (sym same) k.0, subst (λ (x : ℕ). T (not (mem x laid))) (sym same) (and_l (not (mem r.0 laid)) (leb low (block_at g r.0).weight) k.1)))
-      (best_in_lem below none (map (seed_of g laid) (keep (startable g laid low) o)) e q)
+      (best_in below none (map (seed_of g laid) (keep (startable g laid low) o)) e q)
 
   seed_none : (o : List ℕ) (laid : List ℕ) → next_seed g o laid 0 ≡ none → (n : ℕ) → In n o → T (mem n laid)
   unfolding next_seed startable

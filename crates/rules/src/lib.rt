@@ -42,7 +42,7 @@ pub struct Answer {
 }
 
 // How a block is left; a bridge takes the arm with this index.
-#[derive(Drop)]
+#[derive(Clone, Copy)]
 pub enum Leaving {
     Nothing,
     Jump,

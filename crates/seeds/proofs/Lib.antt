@@ -1,4 +1,2 @@
 pub mod ReachedLaws
 pub mod StartLaws
-pub mod SpanLaws
-pub mod LookLaws

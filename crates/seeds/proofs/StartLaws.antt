@@ -1,5 +1,5 @@
 -- The start rule, block by block; and that the tables find the start that the rules find. Assumes nothing.
-use Prim.Native.Nat.{ℕ, ◌+◌, ◌≤◌, ◌<◌}
+use Prim.Native.Nat.{ℕ, zero, suc, ◌+◌, ◌≤◌, ◌<◌}
 use native.Mathlib.Numerals.{add-one}
 use native.Mathlib.Omega.{arith}
 use mathlib.Core.Path.{◌≡◌, refl, sym, ap, ◌∙◌}
@@ -8,7 +8,7 @@ use mathlib.Core.Logic.{inl, inr}
 use mathlib.Core.List.{List, [], ◌∷◌, map}
 use mathlib.Core.Option.{Option, none, some}
 use lib.Dec.{eqb, leb, ltb}
-use lib.ListN.{length, get_or}
+use lib.ListN.{length, get_or, take}
 use lib.Seq.{slice, slice-cons, slice_empty}
 use borrow.Author.Tests.{le-ltb, eq-eqb, ne_eqb}
 use Rattle.rules.specs.Graph.{is_cold}
@@ -23,7 +23,7 @@ use Rattle.flow.proofs.LentLaws.{weight_at, cold_at_lem}
 use Rattle.seeds.specs.declared.Start.{Start}
 use Rattle.seeds.specs.declared.Start.TheVariants.{At, Nothing}
 use Rattle.seeds.specs.Reached.{Reached}
-use Rattle.seeds.specs.Starts.{seed_by, startable_by, ahead, chosen, start_of, block_of, StartsAt}
+use Rattle.seeds.specs.Starts.{seed_by, startable_by, ahead, Among, start_of, block_of, StartsAt}
 
 -- ---- the order of two starts, test by test
 other_side : (a b rest : Bool) → beq a b ≡ false → a ≡ ltb (cond a 0 1) (cond b 0 1) || (eqb (cond a 0 1) (cond b 0 1) && rest)
@@ -57,13 +57,21 @@ module _ (marks weight reached : List ℕ) (x y : ℕ) (cold other : Bool) (is_x
     below_weight e = rw (sym is_x, sym is_y, sym is_a, sym is_b, eq-eqb a b e, le-ltb a b (omega (arith, e))) (same_side cold other (ltb (get_or weight x 0) (get_or weight y 0)) d)
 
 -- ---- whether a block may start
-pub startable_if : (weight seen : List ℕ) (low n : ℕ) → member seen n ≡ false → startable_by weight seen low n ≡ leb low (get_or weight n 0)
+pub startable_not : (weight seen : List ℕ) (low n : ℕ) → true ≡ member seen n → false ≡ startable_by weight seen low n
 unfolding startable_by
-startable_if weight seen low n e = rw e refl
+startable_not weight seen low n e = rw (sym e) refl
 
-pub startable_not : (weight seen : List ℕ) (low n : ℕ) → member seen n ≡ true → startable_by weight seen low n ≡ false
+pub startable_if : (weight seen : List ℕ) (low n : ℕ) → false ≡ member seen n → leb low (get_or weight n 0) ≡ startable_by weight seen low n
 unfolding startable_by
-startable_not weight seen low n e = rw e refl
+startable_if weight seen low n e = rw (sym e) refl
+
+startable_free : (weight seen : List ℕ) (low n : ℕ) → startable_by weight seen low n ≡ true → member seen n ≡ false
+unfolding startable_by
+startable_free weight seen low n e = go (member seen n) e
+  where
+    go : (b : Bool) → not b && leb low (get_or weight n 0) ≡ true → b ≡ false
+    go true e = absurd (true≢false (sym e))
+    go false e = refl
 
 -- ---- the better of two starts
 module _ (seed : ℕ → Seed) (s : Start) (n : ℕ) where
@@ -79,20 +87,34 @@ module _ (seed : ℕ → Seed) (s : Start) (n : ℕ) where
   unfolding ahead
   former_one x e h = rw (e, ahead, sym h) refl
 
+ahead_among : (seed : ℕ → Seed) (l seen : List ℕ) (s : Start) (n : ℕ) → In n l → member seen n ≡ false → Among l seen s → Among l seen (ahead seed s n)
+unfolding ahead
+ahead_among seed l seen Nothing n i f h = (i, f)
+ahead_among seed l seen (At x) n i f h = go (below (seed x) (seed n))
+  where
+    go : (t : Bool) → Among l seen (cond t (At n) (At x))
+    go true = (i, f)
+    go false = h
+
 -- ---- block by block
 module _ (p : ℕ → Bool) (seed : ℕ → Seed) where
+  -- the best of the best start so far and those of some blocks that pass the test
+  unfoldable pub chosen : Start → List ℕ → Start
+  chosen s [] = s
+  chosen s (n ∷ l) = chosen (cond (p n) (ahead seed s n) s) l
+
   module _ (s : Start) (order : List ℕ) (i len n : ℕ) (lt : i < len) (le : len ≤ length order) (is : n ≡ get_or order i 0) where
-    step : chosen p seed s (slice i len order) ≡ chosen p seed (cond (p n) (ahead seed s n) s) (slice (i + 1) len order)
+    step : chosen s (slice i len order) ≡ chosen (cond (p n) (ahead seed s n) s) (slice (i + 1) len order)
     unfolding chosen
     step = rw (slice-cons i len order 0 lt le, is, add-one) refl
 
-    pub chosen_one : (r : Start) (t : Bool) → p n ≡ t → r ≡ cond t (ahead seed s n) s → chosen p seed r (slice (i + 1) len order) ≡ chosen p seed s (slice i len order)
-    chosen_one r t q e = rw e (sym (step ∙ rw q refl))
+    pub chosen_yes : (r : Start) → p n ≡ true → r ≡ ahead seed s n → chosen r (slice (i + 1) len order) ≡ chosen s (slice i len order)
+    chosen_yes r t e = rw e (sym (step ∙ rw t refl))
 
-    pub chosen_no : p n ≡ false → chosen p seed s (slice (i + 1) len order) ≡ chosen p seed s (slice i len order)
-    chosen_no q = chosen_one s false q refl
+    pub chosen_no : p n ≡ false → chosen s (slice (i + 1) len order) ≡ chosen s (slice i len order)
+    chosen_no t = sym (step ∙ rw t refl)
 
-  pub chosen_end : (s : Start) (order : List ℕ) (i len : ℕ) → i ≡ len → chosen p seed s (slice i len order) ≡ s
+  pub chosen_end : (s : Start) (order : List ℕ) (i len : ℕ) → i ≡ len → chosen s (slice i len order) ≡ s
   unfolding chosen
   chosen_end s order i len e = rw (e, slice_empty len order) refl
 
@@ -110,12 +132,12 @@ module _ (p : ℕ → Bool) (seed : ℕ → Seed) where
       go true = refl
       go false = refl
 
-  chosen_best : (s : Start) (l : List ℕ) → seed_in (chosen p seed s l) ≡ best below (seed_in s) (map seed (keep p l))
+  chosen_best : (s : Start) (l : List ℕ) → seed_in (chosen s l) ≡ best below (seed_in s) (map seed (keep p l))
   unfolding chosen keep best
   chosen_best s [] = refl
   chosen_best s (n ∷ l) = go (p n) (λ r. chosen_best r l)
     where
-      go : (t : Bool) → ((r : Start) → seed_in (chosen p seed r l) ≡ best below (seed_in r) (map seed (keep p l))) → seed_in (chosen p seed (cond t (ahead seed s n) s) l) ≡ best below (seed_in s) (map seed (cond t (n ∷ keep p l) (keep p l)))
+      go : (t : Bool) → ((r : Start) → seed_in (chosen r l) ≡ best below (seed_in r) (map seed (keep p l))) → seed_in (chosen (cond t (ahead seed s n) s) l) ≡ best below (seed_in s) (map seed (cond t (n ∷ keep p l) (keep p l)))
       go true ih = ih (ahead seed s n) ∙ best_more s n (map seed (keep p l))
       go false ih = ih s
 
@@ -152,3 +174,15 @@ module _ (marks weight seen reached : List ℕ) (low : ℕ) where
       ∙ ap (λ (l : List Seed). block_of (best below none l))
       (map_same (startable_by weight seen low) (startable (tabled t) laid low) (seed_by marks weight reached) (seed_of (tabled t) laid) order
       (λ n i. startable_same k seen laid m reached h low n (o n i)) (λ n i. seed_same k seen laid m reached h low n (o n i)))
+
+-- ---- one of the first n
+taken_in : (l : List ℕ) (i n : ℕ) → i < n → n ≤ length l → In (get_or l i 0) (take n l)
+taken_in [] i n h k = absurd (omega (arith, h, k))
+taken_in (x ∷ l) i zero h k = absurd (omega (arith, h))
+taken_in (x ∷ l) zero (suc n) h k = inl refl
+taken_in (x ∷ l) (suc i) (suc n) h k = inr (taken_in l i n (omega (arith, h)) (omega (arith, k)))
+
+pub better_among : (seed : ℕ → Seed) (weight seen order : List ℕ) (low i len : ℕ) (s : Start) (n : ℕ) → i < len → len ≤ length order → n ≡ get_or order i 0 → startable_by weight seen low n ≡ true →
+    Among (take len order) seen s → Among (take len order) seen (ahead seed s n)
+better_among seed weight seen order low i len s n lt le e t a =
+    ahead_among seed (take len order) seen s n (rw e (taken_in order i len lt le)) (startable_free weight seen low n t) a

@@ -1,4 +1,2 @@
 pub mod Reached
 pub mod Starts
-pub mod Spans
-pub mod Looks

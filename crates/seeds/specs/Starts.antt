@@ -1,5 +1,5 @@
 -- The start rule by the tables, and what is found in every graph that has them.
-use Rattle.std.specs.Prelude.{ℕ, ◌≡◌, Bool, not, cond, ◌&&◌, List, [], ◌∷◌, leb, get_or}
+use Rattle.std.specs.Prelude.{ℕ, ◌≡◌, Bool, false, not, cond, ◌&&◌, List, leb, get_or}
 use Rattle.std.proofs.Math.Option.{Option, none, some}
 use Rattle.rules.specs.Graph.{is_cold}
 use Rattle.rules.specs.Traces.{Seed, below, next_seed}
@@ -26,17 +26,10 @@ unfoldable pub ahead : (ℕ → Seed) → Start → ℕ → Start
 ahead seed Nothing n = At n
 ahead seed (At x) n = cond (below (seed x) (seed n)) (At n) (At x)
 
--- the better of two starts, the former on ties
-unfoldable pub met : (ℕ → Seed) → Start → Start → Start
-unfolding ahead
-met seed s Nothing = s
-met seed s (At n) = ahead seed s n
-
--- the best of the best start so far and those of some blocks that pass the test, the first on ties
-unfoldable pub chosen : (ℕ → Bool) → (ℕ → Seed) → Start → List ℕ → Start
-unfolding ahead
-chosen p seed s [] = s
-chosen p seed s (n ∷ l) = chosen p seed (cond (p n) (ahead seed s n) s) l
+-- a start is one of these blocks, and not in the set
+abbrev pub Among : List ℕ → List ℕ → Start → Type 0
+Among l seen (At n) = In n l × (member seen n ≡ false)
+Among l seen Nothing = Unit {0}
 
 -- the block that starts
 unfoldable pub start_of : Start → Option ℕ

@@ -1,23 +1,20 @@
--- `seeds::note` meets its contract: noting the arms left, in the table so far, stays noting all; and no more is known than before.
+-- `seeds::note` meets its contract: noting the arms left, in the table so far, stays noting all.
 use Prim.Native.Nat.{◌-◌, ◌≤◌}
 use native.Mathlib.Omega.{arith}
 use mathlib.Core.Path.{◌≡◌, refl, sym, ap, ◌∙◌}
 use lib.ListN.{length}
 use borrow.Author.Rules.{rules}
 use Rattle.limits.specs.Limits.{blocks, arms}
-use Rattle.seeds.specs.Spans.{Forgets}
 use Rattle.seeds.proofs.ReachedLaws.{raised, raised_length, noted, noted_next, noted_end, goes_in, noted_all}
-use Rattle.seeds.proofs.SpanLaws.{forgets_none, forgets_laid, forgets_more}
 use Rattle.seeds.proofs.note.Statement.{statement}
 use Rattle.seeds.proofs.note.Tie as tie
 
 abbrev invariant-loop : tie.invariant-loop
-invariant-loop first count to heft span n reached₀ known₀ f end q₀ reached known q =
+invariant-loop first count to heft n reached₀ f end q₀ reached q =
     (f ≤ q) × (q ≤ end) × (end ≤ arms) × (length reached ≡ blocks) × (noted to heft q (end - q) reached ≡ noted to heft f (end - f) reached₀)
-    × Forgets span reached₀ known₀ reached known
 
 abbrev decreases-loop : tie.decreases-loop
-decreases-loop first count to heft span n reached₀ known₀ f end q₀ reached known q = end - q
+decreases-loop first count to heft n reached₀ f end q₀ reached q = end - q
 
 add-end : tie.Need-overflow-add-end invariant-loop decreases-loop
 add-end c = omega (arith, c.before.entry_of.ensures, c.entry-of2.ensures, c.before.before.requires.0.fits)
@@ -25,47 +22,38 @@ add-end c = omega (arith, c.before.entry_of.ensures, c.entry-of2.ensures, c.befo
 loop-holds : tie.Need-loop-init invariant-loop decreases-loop
 loop-holds c =
     let s = c.before.before in
-    let a = s.args in
-    (omega arith, omega arith, omega (arith, c.before.entry_of.ensures, c.entry-of2.ensures, s.requires.0.fits), s.requires.2, refl, forgets_none a.span.now a.reached.now a.known.now s.requires.3)
+    (omega arith, omega arith, omega (arith, c.before.entry_of.ensures, c.entry-of2.ensures, s.requires.0.fits), s.requires.1, refl)
 
 raise-requires : tie.Need-raise-requires invariant-loop decreases-loop
 raise-requires c κs =
-    let l = c.before.before.before.before.before in
+    let l = c.before.before.before.before in
     let s = l.before.before.before in
     let v = l.loop.invariant in
-    (s.requires.1, v.3, v.5.sized, goes_in s.requires.0 _ _ l.before.before.entry_of.ensures l.before.entry-of2.ensures l.loop.q v.0 c.before.before.before.before.loop-test.true)
+    (v.3, goes_in s.requires.0 _ _ l.before.before.entry_of.ensures l.before.entry-of2.ensures l.loop.q v.0 c.before.before.before.loop-test.true)
 
 loop-again : tie.Need-loop-preserved invariant-loop decreases-loop
 unfolding raised
 loop-again c =
-    let l = c.before.before.before.before.before.before in
-    let s = l.before.before.before in
-    let a = s.args in
+    let l = c.before.before.before.before.before in
+    let a = l.before.before.before.args in
     let v = l.loop.invariant in
-    let lt = c.before.before.before.before.before.loop-test.true in
-    let e = c.raise.ensures.0 in
-    let k = c.raise.ensures.1 in (
+    let lt = c.before.before.before.before.loop-test.true in (
       omega (arith, v.0),
       omega (arith, lt),
       v.2,
-      ap length e ∙ raised_length a.to.now a.heft.now l.loop.q l.loop.reached ∙ v.3,
-      noted_next a.to.now a.heft.now l.loop.q _ l.loop.reached _ lt e ∙ v.4,
-      forgets_more a.span.now a.reached.now a.known.now l.loop.reached l.loop.known _ _ v.5 k,
+      ap length c.raise.ensures ∙ raised_length a.to.now a.heft.now l.loop.q l.loop.reached ∙ v.3,
+      noted_next a.to.now a.heft.now l.loop.q _ l.loop.reached _ lt c.raise.ensures ∙ v.4,
     )
 
 returns : tie.Need-returns invariant-loop decreases-loop
 returns c =
-    let l = c.before.before.before in
+    let l = c.before in
     let s = l.before.before.before in
     let a = s.args in
-    let v = l.loop.invariant in
-    let k = forgets_laid a.span.now l.loop.reached l.loop.known a.n v.5.sized _ c.forget.ensures in (
+    let v = l.loop.invariant in (
       v.3,
-      (
-        noted_all s.requires.0 _ _ l.before.before.entry_of.ensures l.before.entry-of2.ensures a.reached.now l.loop.reached s.requires.2
-            (sym (noted_end a.to.now a.heft.now l.loop.q _ l.loop.reached c.before.before.loop-test.false) ∙ v.4),
-        (forgets_more a.span.now a.reached.now a.known.now l.loop.reached l.loop.known _ _ v.5 k.0, k.1),
-      ),
+      noted_all s.requires.0 _ _ l.before.before.entry_of.ensures l.before.entry-of2.ensures a.reached.now l.loop.reached s.requires.1
+          (sym (noted_end a.to.now a.heft.now l.loop.q _ l.loop.reached c.loop-test.false) ∙ v.4),
     )
 
 pub note-spec : {M : Type 1} → statement M
@@ -86,5 +74,4 @@ note-spec =
     (λ c. search rules)
     (λ c. search rules)
     loop-again
-    (λ c κs. search rules)
     returns)

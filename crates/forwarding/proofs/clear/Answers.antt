@@ -1,0 +1,63 @@
+-- `forwarding::clear` meets its contract: while it runs, the blocks so far are cleared.
+use Prim.Native.Nat.{◌-◌}
+use native.Mathlib.Numerals.{add-one}
+use native.Mathlib.Omega.{arith}
+use mathlib.Core.Logic.{⊎_elim}
+use mathlib.Core.Path.{◌≡◌, refl, sym, ◌∙◌}
+use lib.ListN.{get_or}
+use Rattle.forwarding.specs.Steps.{useless_of, clears_of}
+use Rattle.forwarding.proofs.ClearSteps.{clear_yes, clear_no}
+use borrow.Author.Rules.{rules}
+use Rattle.forwarding.proofs.clear.Goals as goal
+
+pub loop-i-init : goal.loop-i-init
+unfolding clears_of
+loop-i-init c = (search rules, refl)
+
+pub at_block-k-requires : goal.at_block-k-requires
+at_block-k-requires c = search rules
+
+pub at_block-requires : goal.at_block-requires
+at_block-requires c = omega (arith, c.at_block-k.ensures, c.requires.1 c.loop-i.i c.loop-i-test.true)
+
+pub bounds-reached-k : goal.bounds-reached-k
+bounds-reached-k c = omega (arith, c.at_block-k.ensures, c.requires.1 c.loop-i.i c.loop-i-test.true)
+
+pub bounds-marks-k : goal.bounds-marks-k
+bounds-marks-k c = omega (arith, c.at_block-k.ensures, c.requires.1 c.loop-i.i c.loop-i-test.true)
+
+pub bounds-marks-k-then-useless : goal.bounds-marks-k-then-useless
+bounds-marks-k-then-useless c = omega (arith, c.at_block-k.ensures, c.requires.1 c.loop-i.i c.loop-i-test.true)
+
+pub bounds-marks-k-then-useless-2 : goal.bounds-marks-k-then-useless-2
+bounds-marks-k-then-useless-2 c = omega (arith, c.at_block-k.ensures, c.requires.1 c.loop-i.i c.loop-i-test.true)
+
+pub offset_bounds-weight-k : goal.offset_bounds-weight-k
+offset_bounds-weight-k c = omega (arith, c.at_block-k.ensures, c.requires.1 c.loop-i.i c.loop-i-test.true)
+
+pub bounds-weight-k : goal.bounds-weight-k
+bounds-weight-k c = omega (arith, c.at_block-k.ensures, c.requires.1 c.loop-i.i c.loop-i-test.true)
+
+pub offset_bounds-count-k : goal.offset_bounds-count-k
+offset_bounds-count-k c = omega (arith, c.at_block-k.ensures, c.requires.1 c.loop-i.i c.loop-i-test.true)
+
+pub bounds-count-k : goal.bounds-count-k
+bounds-count-k c = omega (arith, c.at_block-k.ensures, c.requires.1 c.loop-i.i c.loop-i-test.true)
+
+pub loop-i-preserved : goal.loop-i-preserved
+unfolding clears_of
+loop-i-preserved c =
+    let l = c.loop-i in
+    let x = c.args in
+    let k = c.at_block-k.result in
+    let told : c.useless.result ≡ useless_of (get_or x.onward.now k 0) (get_or x.reached.now k 0) (get_or l.marks k 0) = c.useless.ensures ∙ rw c.at_block.ensures in
+    rw (add-one, ← c.at_block-k.ensures)
+    (⊎_elim
+    (λ w. (search rules, clear_yes x.onward.now x.reached.now l.marks l.weight l.count _ k l.invariant.1 _ _ _ _ (sym told ∙ w.0.taken) w.2.ensures w.3 w.4 w.5))
+    (λ w. (search rules, clear_no x.onward.now x.reached.now l.marks l.weight l.count _ k l.invariant.1 _ _ _ (sym told ∙ w.0.left) w.1 w.2 w.3))
+    c.if-useless.branch)
+
+pub returns : goal.returns
+returns c =
+    let e : c.loop-i.i ≡ c.args.n = omega arith in
+    rw (← e) c.loop-i.invariant.1
