@@ -15,9 +15,6 @@ pub loop-i-init : goal.loop-i-init
 unfolding clears_of
 loop-i-init c = (search rules, refl)
 
-pub at_block-k-requires : goal.at_block-k-requires
-at_block-k-requires c = search rules
-
 pub at_block-requires : goal.at_block-requires
 at_block-requires c = omega (arith, c.at_block-k.ensures, c.requires.1 c.loop-i.i c.loop-i-test.true)
 
