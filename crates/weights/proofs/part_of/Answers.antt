@@ -1,5 +1,4 @@
 -- `weights::part_of` meets its contract: the share stays at least `low` and below `high`.
-use Prim.Native.Nat.{◌-◌}
 use native.Mathlib.Omega.{arith}
 use mathlib.Core.Path.{sym, ap, ◌∙◌}
 use lib.Dec.{leb}
