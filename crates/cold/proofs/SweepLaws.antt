@@ -171,11 +171,11 @@ warms w m = w.blocks - colds w m
 module _ (w : Links) (h : Linked w) (e : ℕ) where
   pub cools_on : (m₀ m : List ℕ) (j : ℕ) → Cools w e m₀ j m → (n : List ℕ) (k : ℕ) → Cools w e m k n → (x : ℕ) × Cools w e m₀ x n
   cools_on m₀ m j a n zero still = (j, a)
-  cools_on m₀ m j a n (suc k) (next b i l q) = let r = cools_on m₀ m j a _ k b in (suc r.0, next r.1 i l q)
+  cools_on m₀ m j a n (suc k) (next {m = m'} b i l q) = let r = cools_on m₀ m j a m' k b in (suc r.0, next r.1 i l q)
 
   pub cools_sized : (m₀ m : List ℕ) (j : ℕ) → length m₀ ≡ blocks → Cools w e m₀ j m → length m ≡ blocks
   cools_sized m₀ m zero s still = s
-  cools_sized m₀ m (suc j) s (next b i l q) = cooled_sized w h _ (cools_sized m₀ _ j s b) i l
+  cools_sized m₀ m (suc j) s (next {m = m'} b i l q) = cooled_sized w h m' (cools_sized m₀ m' j s b) i l
 
   pub cools_more : (m₀ m : List ℕ) (j : ℕ) → length m₀ ≡ blocks → Cools w e m₀ j m → colds w m ≡ colds w m₀ + j
   cools_more m₀ m zero s still = omega arith

@@ -5,12 +5,12 @@ use native.Mathlib.Numerals.{add-one}
 use native.Mathlib.Omega.{arith}
 use mathlib.Core.Path.{◌≡◌, refl, sym, ap, subst, ◌∙◌}
 use mathlib.Core.Bool.{Bool, true, false, not, cond, ◌&&◌}
-use mathlib.Core.Logic.{inl, inr}
+use mathlib.Core.Logic.{⊎_elim}
 use mathlib.Core.List.{List, [], ◌∷◌, ◌++◌, append-nil}
 use lib.Dec.{ltb, leb, eqb}
 use lib.ListN.{length, get_or, set, length-set, length-replicate}
 use lib.Seq.{get_or-set_same, get_or-set_other}
-use types.Run.{OneOf}
+use borrow.Enum.Refused.{Among, opened}
 use denote.Enum.Declared.{tag_of}
 use borrow.Author.Tests.{lt-ltb, eq-eqb, ne_eqb, eqb-true, eqb-false, ltb-true, ltb-false, leb-false}
 use Rattle.limits.specs.Limits.{most_arms, blocks, arms}
@@ -251,7 +251,7 @@ module _ (l₀ : List Record) (place t : List ℕ) (m j last : ℕ) (a : Arms) (
       ∙ ap (at why) h.long
 
   -- a block comes too late: t does not begin with one, so there is an arm before it
-  pub no_arm_at : (r : Record) → record_at t j ≡ r → j < m → OneOf (0 ∷ 2 ∷ []) (tag_of the_type r)
+  pub no_arm_at : (r : Record) → record_at t j ≡ r → j < m → Among (0 ∷ 2 ∷ []) (tag_of the_type r)
       → (first (all_checks (onward l₀ t (suc j))) ≡ at (no_arm r) (length l₀ + j)) × (no_arm r ≡ 0 → ⊥)
   unfolding record_checks first no_arm onward
   no_arm_at (Block number marks end weight) e k o =
@@ -260,8 +260,7 @@ module _ (l₀ : List Record) (place t : List ℕ) (m j last : ℕ) (a : Arms) (
       (λ z.
       let p : 0 < arm_count (onward l₀ t j) = omega (arith, h.count, z) in
       (refused_at (Block number marks end weight) 4 e (rw (lt-ltb 0 (arm_count (onward l₀ t j)) p)), λ q. omega (arith, q)))
-  no_arm_at (Arm from to args weight) e k (inl q) = absurd (omega (arith, q))
-  no_arm_at (Arm from to args weight) e k (inr q) = absurd (omega (arith, q))
+  no_arm_at (Arm from to args weight) e k o = ⊎_elim (λ q. absurd (omega (arith, q))) (λ q. absurd (omega (arith, q))) (opened o)
   no_arm_at Outside e k o = (refused_at Outside 3 e refl, λ q. omega (arith, q))
 
   module _ (from to args weight : ℕ) (e : record_at t j ≡ Arm from to args weight) (last_is : last ≡ last_of (onward l₀ t j)) where
@@ -355,7 +354,7 @@ module _ (place t : List ℕ) (m : ℕ) where
         → ArmsAfter place t m a (record { why = why; at = j })
     refusal why k z f l₀ h = record { refused = λ _. (k, f l₀ h); held = λ q. absurd (z q) }
 
-    pub held_no_arm : (r : Record) → record_at t j ≡ r → j < m → OneOf (0 ∷ 2 ∷ []) (tag_of the_type r) → ArmsAfter place t m a (record { why = no_arm r; at = j })
+    pub held_no_arm : (r : Record) → record_at t j ≡ r → j < m → Among (0 ∷ 2 ∷ []) (tag_of the_type r) → ArmsAfter place t m a (record { why = no_arm r; at = j })
     held_no_arm r e k o l₀ h =
         let f = no_arm_at l₀ place t m j last a h (held l₀ h).0 r e k o in
         record { refused = λ _. (k, f.0); held = λ q. absurd (f.1 q) }

@@ -4,12 +4,12 @@ use native.Mathlib.Numerals.{add-one}
 use native.Mathlib.Omega.{arith}
 use mathlib.Core.Path.{◌≡◌, refl, sym, ap, subst, ◌∙◌}
 use mathlib.Core.Bool.{Bool, true, false, cond, ◌&&◌}
-use mathlib.Core.Logic.{inl, inr}
+use mathlib.Core.Logic.{⊎_elim}
 use mathlib.Core.List.{List, [], ◌∷◌}
 use lib.Dec.{ltb, eqb}
 use lib.ListN.{length, get_or, set, length-set, length-replicate}
 use lib.Seq.{get_or-set_same, get_or-set_other}
-use types.Run.{OneOf}
+use borrow.Enum.Refused.{Among, opened}
 use denote.Enum.Declared.{tag_of}
 use borrow.Author.Tests.{ltb-false}
 use Rattle.limits.specs.Limits.{numbers, blocks}
@@ -215,9 +215,8 @@ module _ (s : List ℕ) (i entry : ℕ) (b : Blocks) (h : BlocksHeld s i entry b
       block_turn = subst (λ (n : ℕ). BlocksHeld s n (entry_next entry marks i) next) (sym (add-one i)) turned
 
 -- what is left of a match when the block is taken out of it
-pub not_block : (r : Record) → OneOf (1 ∷ 2 ∷ []) (tag_of the_type r) → IsBlock r → ⊥
-not_block (Block number marks end weight) (inl q) k = omega (arith, q)
-not_block (Block number marks end weight) (inr q) k = omega (arith, q)
+pub not_block : (r : Record) → Among (1 ∷ 2 ∷ []) (tag_of the_type r) → IsBlock r → ⊥
+not_block (Block number marks end weight) a k = ⊎_elim (λ q. omega (arith, q)) (λ q. omega (arith, q)) (opened a)
 not_block (Arm from to args weight) q k = k
 not_block Outside q k = k
 

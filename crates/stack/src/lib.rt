@@ -30,9 +30,17 @@ impl<'a> Stack<'a> {
         requires { (self.len < room) × Roomy self.block.now self.arm.now }
         ensures { (result ≡ pushed self.entry block arm) × (stack_of result ≡ frame block arm ∷ stack_of self.entry) }
     {
-        let at = self.len;
-        self.len = push_at(&mut *self.block, &mut *self.arm, at, block, arm);
-        self
+        let Stack {
+            block: blocks,
+            arm: arms,
+            len: at,
+        } = self;
+        let len = push_at(&mut *blocks, &mut *arms, at, block, arm);
+        Stack {
+            block: blocks,
+            arm: arms,
+            len,
+        }
     }
 
     // The top entry and the rest of a stack that has one.
@@ -40,11 +48,19 @@ impl<'a> Stack<'a> {
         requires { (0 < self.len) × (self.len ≤ room) × Roomy self.block.now self.arm.now }
         ensures { (result ≡ popped self.entry) × (stack_of self.entry ≡ frame result.block result.arm ∷ stack_of result.stack) }
     {
-        let top = self.len - 1;
-        let e = entry_at(&mut *self.block, &mut *self.arm, top);
-        self.len = top;
+        let Stack {
+            block: blocks,
+            arm: arms,
+            len,
+        } = self;
+        let top = len - 1;
+        let e = entry_at(&mut *blocks, &mut *arms, top);
         Popped {
-            stack: self,
+            stack: Stack {
+                block: blocks,
+                arm: arms,
+                len: top,
+            },
             block: e.block,
             arm: e.arm,
         }

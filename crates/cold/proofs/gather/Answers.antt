@@ -8,6 +8,7 @@ use Rattle.cold.specs.Sides.{Gathered}
 use Rattle.cold.proofs.SideLaws.{gather_start, gather_room, gather_yes, gather_no}
 use borrow.Author.Rules.{rules}
 use Rattle.cold.proofs.gather.Goals as goal
+use Rattle.cold.proofs.gather.Goals.{then-side_of-side, else-side_of-side}
 
 pub loop-i-init : goal.loop-i-init
 loop-i-init c =
@@ -52,11 +53,12 @@ loop-i-preserved c =
     let e = c.side_of.ensures ∙ ap (λ (m : ℕ). m / 2 % 2) c.byte_of.ensures in
     let inside : l.i < length x.block.now = omega arith in (
       search rules,
-      ⊎_elim
-          (λ w. let room = gather_room x.marks.now x.side x.block.now x.at x.out.now l.i l.to l.out inside l.invariant.1 x.len _ (omega arith) (sym e ∙ w.0.taken) p.block_bound in
-          rw (w.1, w.2) (gather_yes x.marks.now x.side x.block.now x.at x.out.now l.i l.to l.out inside l.invariant.1 (sym e ∙ w.0.taken) (omega (arith, room, l.invariant.1.sized))))
-          (λ w. rw (w.1, w.2) (gather_no x.marks.now x.side x.block.now x.at x.out.now l.i l.to l.out inside l.invariant.1 (λ q. w.0.left (e ∙ q))))
-          c.if-side_of-side.branch,
+      elim c.if-side_of-side.branch [
+        | then-side_of-side w ↦
+            (let room = gather_room x.marks.now x.side x.block.now x.at x.out.now l.i l.to l.out inside l.invariant.1 x.len _ (omega arith) (sym e ∙ w.if-side_of-side.true) p.block_bound in
+            rw (w.to-is, w.out-is) (gather_yes x.marks.now x.side x.block.now x.at x.out.now l.i l.to l.out inside l.invariant.1 (sym e ∙ w.if-side_of-side.true) (omega (arith, room, l.invariant.1.sized))))
+        | else-side_of-side w ↦ rw (w.to-is, w.out-is) (gather_no x.marks.now x.side x.block.now x.at x.out.now l.i l.to l.out inside l.invariant.1 (λ q. w.if-side_of-side.false (e ∙ q)))
+      ],
     )
 
 pub returns : goal.returns

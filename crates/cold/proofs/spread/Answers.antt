@@ -7,24 +7,23 @@ use Rattle.cold.proofs.PartLaws.{marks_sized}
 use Rattle.cold.proofs.SpreadLaws.{over_marks, over_linked, spread_settled, spread_still}
 use Rattle.cold.proofs.spread.Goals as goal
 
-tables-sized : (d : tie.Start) → (d.args.n ≤ blocks) × (length d.args.listed.now ≡ blocks) × (length d.args.marks.now ≡ blocks)
-tables-sized d =
-    let x = d.args in
-    let k = over_marks d.requires.graph x.listed.now x.marks.now x.first.now x.count.now x.to.now x.n d.requires.over in
-    marks_sized d.requires.graph x.listed.now x.marks.now x.n k d.requires.stands
-
 pub find-e-requires : goal.find-e-requires
-find-e-requires c = tables-sized c
+find-e-requires c =
+    marks_sized c.requires.graph c.args.listed.now c.args.marks.now c.args.n
+    (over_marks c.requires.graph c.args.listed.now c.args.marks.now c.args.first.now c.args.count.now c.args.to.now c.args.n c.requires.over) c.requires.stands
 
 pub splits-requires : goal.splits-requires
-splits-requires c = tables-sized c
+splits-requires c =
+    marks_sized c.requires.graph c.args.listed.now c.args.marks.now c.args.n
+    (over_marks c.requires.graph c.args.listed.now c.args.marks.now c.args.first.now c.args.count.now c.args.to.now c.args.n c.requires.over) c.requires.stands
 
 pub cool-requires : goal.cool-requires
 cool-requires c =
     let d = c in
     let x = d.args in (
       over_linked d.requires.graph x.listed.now x.marks.now x.first.now x.count.now x.to.now x.n d.requires.over d.requires.stands d.requires.whole,
-      (tables-sized d).2,
+      (marks_sized c.requires.graph c.args.listed.now c.args.marks.now c.args.n
+      (over_marks c.requires.graph c.args.listed.now c.args.marks.now c.args.first.now c.args.count.now c.args.to.now c.args.n c.requires.over) c.requires.stands).2,
     )
 
 pub returns-then-splits : goal.returns-then-splits

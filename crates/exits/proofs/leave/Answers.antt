@@ -8,7 +8,7 @@ use Rattle.exits.proofs.leave.Goals as goal
 pub loop-j-init : goal.loop-j-init
 loop-j-init c =
     let x = c.args in
-    leaves_start (only_arms x.to.now x.args.now x.weight.now) x.f x.c x.how x.new (only_arms x.newto.now x.newargs.now x.newweight.now) x.q c.requires.newto_len.0.0 c.requires.newto_len.0.1 c.requires.newto_len.0.2
+    leaves_start (only_arms x.to.now x.args.now x.weight.now) x.f x.c x.how x.new (only_arms x.newto.now x.newargs.now x.newweight.now) x.q c.requires.newto_len.0 c.requires.newto_len.1 c.requires.newto_len.2
 
 pub overflow_add-s : goal.overflow_add-s
 overflow_add-s c =
@@ -16,7 +16,7 @@ overflow_add-s c =
     let l = c.loop-j in
     let t = c.loop-j-test.true in
     let e = c.source.ensures in
-    record { fits = omega (arith, e, source_below x.how x.c l.j t, c.requires.newto_len.1) }
+    record { fits = omega (arith, e, source_below x.how x.c l.j t, c.requires.c_bound) }
 
 pub offset_bounds-to-s : goal.offset_bounds-to-s
 offset_bounds-to-s c =
@@ -24,7 +24,7 @@ offset_bounds-to-s c =
     let l = c.loop-j in
     let t = c.loop-j-test.true in
     let e = c.source.ensures in
-    record { fits = omega (arith, e, source_below x.how x.c l.j t, c.requires.newto_len.1) }
+    record { fits = omega (arith, e, source_below x.how x.c l.j t, c.requires.c_bound) }
 
 pub bounds-to-s : goal.bounds-to-s
 bounds-to-s c =
@@ -32,7 +32,7 @@ bounds-to-s c =
     let l = c.loop-j in
     let t = c.loop-j-test.true in
     let e = c.source.ensures in
-    omega (arith, e, source_below x.how x.c l.j t, c.requires.newto_len.1)
+    omega (arith, e, source_below x.how x.c l.j t, c.requires.c_bound)
 
 pub bounds-args-s : goal.bounds-args-s
 bounds-args-s c =
@@ -40,7 +40,7 @@ bounds-args-s c =
     let l = c.loop-j in
     let t = c.loop-j-test.true in
     let e = c.source.ensures in
-    omega (arith, e, source_below x.how x.c l.j t, c.requires.newto_len.1)
+    omega (arith, e, source_below x.how x.c l.j t, c.requires.c_bound)
 
 pub offset_bounds-weight-s : goal.offset_bounds-weight-s
 offset_bounds-weight-s c =
@@ -48,7 +48,7 @@ offset_bounds-weight-s c =
     let l = c.loop-j in
     let t = c.loop-j-test.true in
     let e = c.source.ensures in
-    record { fits = omega (arith, e, source_below x.how x.c l.j t, c.requires.newto_len.1) }
+    record { fits = omega (arith, e, source_below x.how x.c l.j t, c.requires.c_bound) }
 
 pub bounds-weight-s : goal.bounds-weight-s
 bounds-weight-s c =
@@ -56,25 +56,17 @@ bounds-weight-s c =
     let l = c.loop-j in
     let t = c.loop-j-test.true in
     let e = c.source.ensures in
-    omega (arith, e, source_below x.how x.c l.j t, c.requires.newto_len.1)
+    omega (arith, e, source_below x.how x.c l.j t, c.requires.c_bound)
 
 pub loop-j-preserved : goal.loop-j-preserved
 loop-j-preserved c =
     let x = c.args in
     let l = c.loop-j in
     rw (c.to_left.ensures, c.args_left.ensures, c.bridged-b.ensures, c.source.ensures)
-    (leaves_turn (only_arms x.to.now x.args.now x.weight.now) x.f x.c x.how x.new (only_arms x.newto.now x.newargs.now x.newweight.now) x.q l.newto l.newargs l.newweight l.j l.invariant c.loop-j-test.true c.requires.newto_len.1.1)
+    (leaves_turn (only_arms x.to.now x.args.now x.weight.now) x.f x.c x.how x.new (only_arms x.newto.now x.newargs.now x.newweight.now) x.q l.newto l.newargs l.newweight l.j l.invariant c.loop-j-test.true c.requires.c_bound.1)
 
 pub returns : goal.returns
 returns c =
     let x = c.args in
     let l = c.loop-j in
-    let i = l.invariant in
-    let answer = (
-      (i.to, i.args, i.weight),
-      (
-        leaves_end (only_arms x.to.now x.args.now x.weight.now) x.f x.c x.how x.new (only_arms x.newto.now x.newargs.now x.newweight.now) x.q (only_arms l.newto l.newargs l.newweight) l.j i c.loop-j-test.false,
-        i.kept,
-      ),
-    ) in
-    record { newto_len_2 = answer.0; c_after = answer.1; below = answer.2 }
+    let i = l.invariant in record { newto_len_2 = (i.to, i.args, i.weight); c_after = leaves_end (only_arms x.to.now x.args.now x.weight.now) x.f x.c x.how x.new (only_arms x.newto.now x.newargs.now x.newweight.now) x.q (only_arms l.newto l.newargs l.newweight) l.j i c.loop-j-test.false; below = i.kept }

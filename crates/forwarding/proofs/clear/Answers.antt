@@ -9,6 +9,7 @@ use Rattle.forwarding.specs.Steps.{useless_of, clears_of}
 use Rattle.forwarding.proofs.ClearSteps.{clear_yes, clear_no}
 use borrow.Author.Rules.{rules}
 use Rattle.forwarding.proofs.clear.Goals as goal
+use Rattle.forwarding.proofs.clear.Goals.{then-useless, else-useless}
 
 pub loop-i-init : goal.loop-i-init
 unfolding clears_of
@@ -52,10 +53,11 @@ loop-i-preserved c =
     let k = c.at_block-k.result in
     let told : c.useless.result ≡ useless_of (get_or x.onward.now k 0) (get_or x.reached.now k 0) (get_or l.marks k 0) = c.useless.ensures ∙ rw c.at_block.ensures in
     rw (add-one, ← c.at_block-k.ensures)
-    (⊎_elim
-    (λ w. (search rules, clear_yes x.onward.now x.reached.now l.marks l.weight l.count _ k l.invariant.1 _ _ _ _ (sym told ∙ w.0.taken) w.2.ensures w.3 w.4 w.5))
-    (λ w. (search rules, clear_no x.onward.now x.reached.now l.marks l.weight l.count _ k l.invariant.1 _ _ _ (sym told ∙ w.0.left) w.1 w.2 w.3))
-    c.if-useless.branch)
+    (elim c.if-useless.branch [
+      | then-useless w ↦
+          (search rules, clear_yes x.onward.now x.reached.now l.marks l.weight l.count _ k l.invariant.1 _ _ _ _ (sym told ∙ w.if-useless.true) w.dead.ensures w.marks-is w.weight-is w.count-is)
+      | else-useless w ↦ (search rules, clear_no x.onward.now x.reached.now l.marks l.weight l.count _ k l.invariant.1 _ _ _ (sym told ∙ w.if-useless.false) w.marks-is w.weight-is w.count-is)
+    ])
 
 pub returns : goal.returns
 returns c =

@@ -5,12 +5,11 @@ use native.Mathlib.Omega.{arith}
 use mathlib.Core.Path.{◌≡◌, refl, sym, ◌∙◌}
 use Rattle.forwarding.specs.Steps.{turned_of, moves_of}
 use Rattle.forwarding.proofs.StepLaws.{turned_small, moves_most, hop_small, differ_most, turn_not, turn_ours}
-use borrow.Author.Tests.{not-true, not-false}
 use borrow.Author.Rules.{rules}
 use Rattle.forwarding.proofs.move_block.Goals as goal
 
 pub returns-then-not-ours : goal.returns-then-not-ours
-returns-then-not-ours c = let x = c.args in turn_not x.onward.now x.end x.first x.count x.to.now (sym c.ours.ensures ∙ not-true _ c.if-not-ours.true)
+returns-then-not-ours c = let x = c.args in turn_not x.onward.now x.end x.first x.count x.to.now (sym c.ours.ensures ∙ c.if-not-ours.true)
 
 pub loop-j-init : goal.loop-j-init
 unfolding moves_of turned_of
@@ -46,5 +45,5 @@ returns c =
     let l = c.loop-j in
     let x = c.args in
     let e : l.j ≡ x.count = omega arith in
-    let t = turn_ours x.onward.now x.end x.first x.count x.to.now (sym c.ours.ensures ∙ not-false _ c.if-not-ours.false) in
+    let t = turn_ours x.onward.now x.end x.first x.count x.to.now (sym c.ours.ensures ∙ c.if-not-ours.false) in
     (l.invariant.1 ∙ rw e t.0, l.invariant.2 ∙ rw e t.1)

@@ -19,11 +19,7 @@ pub returns-in_default : goal.returns-in_default
 returns-in_default c =
     let l = c.loop-j in
     let x = c.args in
-    let answer = rw c.no_arm-why.ensures (
-      (l.invariant.1, l.invariant.2, l.invariant.0),
-      held_no_arm x.place.now x.t.now x.m l.j l.last _ l.invariant.3 c.decode-r.result (sym (part_record x.t.now l.j) ∙ sym c.decode-r.ensures) c.loop-j-test.true c.in_default.in_default-own.keys2,
-    ) in
-    record { arms_sized = answer.0; arms_after = answer.1 }
+    rw c.no_arm-why.ensures (record { arms_sized = (l.invariant.1, l.invariant.2, l.invariant.0); arms_after = held_no_arm x.place.now x.t.now x.m l.j l.last _ l.invariant.3 c.decode-r.result (sym (part_record x.t.now l.j) ∙ sym c.decode-r.ensures) c.loop-j-test.true c.in_default.in_default-own.keys2 })
 
 pub entry_of-here-requires : goal.entry_of-here-requires
 entry_of-here-requires c = c.requires.2

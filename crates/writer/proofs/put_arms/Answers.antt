@@ -31,7 +31,7 @@ overflow_mul-next c =
     let x = c.args in
     let b = only_listed x.listed.now in
     let a = arm_tables x.first.now x.count.now x.to.now x.args.now x.weight.now in
-    omega (arith, arms_room b a l.i x.n (omega arith), c.entry_of-c.ensures, arms_all b a x.n, c.requires.arms_within.1)
+    omega (arith, arms_room b a l.i x.n (omega arith), c.entry_of-c.ensures, arms_all b a x.n, c.requires.n_in_bounds)
 
 pub overflow_add-next : goal.overflow_add-next
 overflow_add-next c =
@@ -39,7 +39,7 @@ overflow_add-next c =
     let x = c.args in
     let b = only_listed x.listed.now in
     let a = arm_tables x.first.now x.count.now x.to.now x.args.now x.weight.now in
-    omega (arith, arms_room b a l.i x.n (omega arith), c.entry_of-c.ensures, arms_all b a x.n, c.requires.arms_within.1)
+    omega (arith, arms_room b a l.i x.n (omega arith), c.entry_of-c.ensures, arms_all b a x.n, c.requires.n_in_bounds)
 
 pub slice_bounds-put_leaving-end : goal.slice_bounds-put_leaving-end
 slice_bounds-put_leaving-end c =
@@ -47,7 +47,7 @@ slice_bounds-put_leaving-end c =
     let x = c.args in
     let b = only_listed x.listed.now in
     let a = arm_tables x.first.now x.count.now x.to.now x.args.now x.weight.now in
-    omega (arith, arms_room b a l.i x.n (omega arith), c.entry_of-c.ensures, arms_all b a x.n, c.requires.arms_within.1)
+    omega (arith, arms_room b a l.i x.n (omega arith), c.entry_of-c.ensures, arms_all b a x.n, c.requires.n_in_bounds)
 
 pub put_leaving-requires : goal.put_leaving-requires
 put_leaving-requires c =
@@ -55,9 +55,9 @@ put_leaving-requires c =
     let x = c.args in
     let b = only_listed x.listed.now in
     let a = arm_tables x.first.now x.count.now x.to.now x.args.now x.weight.now in (
-      omega (arith, c.requires.arms_within.0 (get_or x.listed.now l.i 0), c.entry_of-f.ensures, c.entry_of-c.ensures),
+      omega (arith, c.requires.arms_within (get_or x.listed.now l.i 0), c.entry_of-f.ensures, c.entry_of-c.ensures),
       part_length l.out l.at (size * c.entry_of-c.result)
-          (omega (arith, arms_room b a l.i x.n (omega arith), c.entry_of-c.ensures, arms_all b a x.n, c.requires.arms_within.1)),
+          (omega (arith, arms_room b a l.i x.n (omega arith), c.entry_of-c.ensures, arms_all b a x.n, c.requires.n_in_bounds)),
     )
 
 pub loop-i-preserved : goal.loop-i-preserved
@@ -67,7 +67,7 @@ loop-i-preserved c =
     let b = only_listed x.listed.now in
     let a = arm_tables x.first.now x.count.now x.to.now x.args.now x.weight.now in
     let count = c.entry_of-c.result in
-    let fits : size * x.n ≤ length x.out.now = omega (arith, c.requires.arms_within.1) in
+    let fits : size * x.n ≤ length x.out.now = omega (arith, c.requires.n_in_bounds) in
     let m : l.at + size * count ≡ size * x.n + arms_long b a (l.i + 1) =
     rw add-one (omega (arith, c.entry_of-c.ensures, l.invariant.1, arms_step b a l.i)) in
     let q = arms_turn b a x.out.now l.out c.put_leaving.new.out (size * x.n) l.i l.at count fits l.invariant.1 l.invariant.3
@@ -76,7 +76,7 @@ loop-i-preserved c =
       m,
       fill_length (arms_front b a x.out.now (size * x.n) (l.i + 1)) x.out.now _ (l.at + size * count)
           (front_length b a x.out.now (size * x.n) (l.i + 1) fits ∙ sym m)
-          (omega (arith, arms_room b a l.i x.n (omega arith), c.entry_of-c.ensures, arms_all b a x.n, c.requires.arms_within.1)) q,
+          (omega (arith, arms_room b a l.i x.n (omega arith), c.entry_of-c.ensures, arms_all b a x.n, c.requires.n_in_bounds)) q,
       q,
     )
 

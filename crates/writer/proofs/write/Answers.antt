@@ -17,8 +17,7 @@ put_arms-requires c =
     let x = c.args in
     let h = c.requires in
     let w = written_parts (only_blocks x.listed.now x.marks.now x.ends.now x.weight.now) (arm_tables x.first.now x.count.now x.to.now x.args.now x.heft.now) x.n in
-    let answer = ((h.few, h.first_sized, h.count_sized), (h.fits, omega (arith, h.room_is, w, c.put_blocks.auto))) in
-    record { n_le_blocks = answer.0; arms_within = answer.1; n_in_bounds = answer.2 }
+    record { n_le_blocks = (h.few, h.first_sized, h.count_sized); arms_within = h.fits; n_in_bounds = omega (arith, h.room_is, w, c.put_blocks.auto) }
 
 pub returns : goal.returns
 returns c =
