@@ -22,7 +22,7 @@ cool-requires c =
     let x = c.args in (
       over_linked c.requires.graph x.listed.now x.marks.now x.first.now x.count.now x.to.now x.n c.requires.over c.requires.stands c.requires.whole,
       (marks_sized c.requires.graph c.args.listed.now c.args.marks.now c.args.n
-      (over_marks c.requires.graph c.args.listed.now c.args.marks.now c.args.first.now c.args.count.now c.args.to.now c.args.n c.requires.over) c.requires.stands).2,
+          (over_marks c.requires.graph c.args.listed.now c.args.marks.now c.args.first.now c.args.count.now c.args.to.now c.args.n c.requires.over) c.requires.stands).2,
     )
 
 pub returns-then-splits : goal.returns-then-splits
