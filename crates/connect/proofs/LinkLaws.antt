@@ -2,7 +2,7 @@
 use Prim.Native.Nat.{ℕ, zero, suc, ◌+◌, ◌-◌, ◌≤◌, ◌<◌}
 use native.Mathlib.Omega.{arith}
 use mathlib.Core.Path.{◌≡◌, refl, sym, ap, ◌∙◌, subst}
-use mathlib.Core.Bool.{Bool, true, false, not, cond, ◌&&◌, ◌||◌, beq}
+use mathlib.Core.Bool.{Bool, true, false, not, cond, ◌&&◌, ◌||◌, beq, true≢false}
 use mathlib.Core.List.{List, ◌∷◌}
 use mathlib.Core.Option.{Option, none, some}
 use lib.Dec.{ltb}
@@ -67,11 +67,19 @@ module _ (o x : Next) where
     module _ (a : Link) (is_a : o ≡ Trace a) where
       pub other_one : true ≡ looser (link_in a) (link_in b) → link_of x ≡ tighter (link_of o) (link_of x)
       unfolding link_of tighter
-      other_one h = rw (is_a, is_b, link_of, tighter, sym h) refl
+      other_one h = rw (is_a, is_b) (go (looser (link_in a) (link_in b)) h)
+        where
+          go : (t : Bool) → true ≡ t → some (link_in b) ≡ cond t (some (link_in b)) (some (link_in a))
+          go true e = refl
+          go false e = absurd (true≢false e)
 
       pub best_one : false ≡ looser (link_in a) (link_in b) → link_of o ≡ tighter (link_of o) (link_of x)
       unfolding link_of tighter
-      best_one h = rw (is_a, is_b, link_of, tighter, sym h) refl
+      best_one h = rw (is_a, is_b) (go (looser (link_in a) (link_in b)) h)
+        where
+          go : (t : Bool) → false ≡ t → some (link_in a) ≡ cond t (some (link_in b)) (some (link_in a))
+          go true e = absurd (true≢false (sym e))
+          go false e = refl
 
 -- ---- where an arm leads, test by test
 module _ (marks to heft ends head used : List ℕ) (cold : Bool) (q h : ℕ) (is_h : h ≡ get_or head (get_or to q 0) 0) where

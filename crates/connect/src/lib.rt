@@ -14,7 +14,7 @@ use limits::{ARMS, BLOCKS};
 use records::Order;
 
 // An arm to the first block of a trace: its weight, and the trace's length and index.
-#[derive(Drop)]
+#[derive(Clone, Copy)]
 pub struct Link {
     pub weight: u64,
     pub long: usize,
@@ -22,7 +22,7 @@ pub struct Link {
 }
 
 // The trace that follows, or that there is none.
-#[derive(Drop)]
+#[derive(Clone, Copy)]
 pub enum Next {
     Trace(Link),
     Nothing,
