@@ -133,6 +133,7 @@ pub fn partition<'a>(
 
 // Whether a block joins the cold ones: it is not the entry and not cold, and its arms in, at least one, are all from
 // cold blocks.
+#[tactic(auto, unfolding(crate::specs::Sweeps::joining))]
 fn joins(k: usize, entry: usize, marks: u8, ins: u16, cold: u16) -> bool
     ensures { result ≡ joining k entry marks ins cold }
 {

@@ -71,6 +71,7 @@ fn plain_marks(marks: u8) -> bool
 }
 
 // Whether a block is a way through: no instruction, and one arm without arguments.
+#[tactic(auto, unfolding(crate::specs::Steps::passing))]
 fn passes(end: u8, marks: u8, count: usize, args: u8) -> bool
     ensures { result ≡ passing end marks count args }
 {

@@ -204,6 +204,7 @@ fn read_records(
 }
 
 // The whole file: its verdict, 1 to 9 or 0, and where nothing is refused its graph in the tables.
+#[tactic(auto, using(crate::proofs::ReadLaws::refuses, rules::proofs::Verdicts::too_long, rules::proofs::Verdicts::not_whole))]
 pub fn read(
     s: &[u8],
     place: &mut [u16; BLOCKS],

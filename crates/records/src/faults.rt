@@ -15,6 +15,7 @@ pub fn is_entry(marks: u8) -> bool
 }
 
 // Blocks by 5, 6: where the number is listed already, where the entry is, the marks.
+#[tactic(auto, unfolding(crate::specs::Faults::block_fault))]
 pub fn block_fault(place: usize, entry: usize, marks: u8) -> u64
     ensures { result ≡ block_fault place entry marks }
 {
@@ -30,6 +31,7 @@ pub fn block_fault(place: usize, entry: usize, marks: u8) -> u64
 }
 
 // Arms by 7, 4, 8: where from and to are listed, where the last arm's from is, how many arms came before.
+#[tactic(auto, unfolding(crate::specs::Faults::arm_fault))]
 pub fn arm_fault(from: usize, to: usize, last: usize, arms: usize) -> u64
     ensures { result ≡ arm_fault from to last arms }
 {

@@ -72,6 +72,7 @@ fn block(r: &[u8]) -> Record
     }
 }
 
+#[tactic(auto, unfolding(rules::specs::Records::arm_of))]
 fn arm(r: &[u8]) -> Record
     requires { length r.now ≡ size }
     ensures { result ≡ arm_of r.now }

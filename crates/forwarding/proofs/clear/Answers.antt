@@ -15,36 +15,6 @@ pub loop-i-init : goal.loop-i-init
 unfolding clears_of
 loop-i-init c = (search rules, refl)
 
-pub at_block-k-requires : goal.at_block-k-requires
-at_block-k-requires c = search rules
-
-pub at_block-requires : goal.at_block-requires
-at_block-requires c = omega (arith, c.at_block-k.ensures, c.requires.1 c.loop-i.i c.loop-i-test.true)
-
-pub bounds-reached-k : goal.bounds-reached-k
-bounds-reached-k c = omega (arith, c.at_block-k.ensures, c.requires.1 c.loop-i.i c.loop-i-test.true)
-
-pub bounds-marks-k : goal.bounds-marks-k
-bounds-marks-k c = omega (arith, c.at_block-k.ensures, c.requires.1 c.loop-i.i c.loop-i-test.true)
-
-pub bounds-marks-k-then-useless : goal.bounds-marks-k-then-useless
-bounds-marks-k-then-useless c = omega (arith, c.at_block-k.ensures, c.requires.1 c.loop-i.i c.loop-i-test.true)
-
-pub bounds-marks-k-then-useless-2 : goal.bounds-marks-k-then-useless-2
-bounds-marks-k-then-useless-2 c = omega (arith, c.at_block-k.ensures, c.requires.1 c.loop-i.i c.loop-i-test.true)
-
-pub offset_bounds-weight-k : goal.offset_bounds-weight-k
-offset_bounds-weight-k c = omega (arith, c.at_block-k.ensures, c.requires.1 c.loop-i.i c.loop-i-test.true)
-
-pub bounds-weight-k : goal.bounds-weight-k
-bounds-weight-k c = omega (arith, c.at_block-k.ensures, c.requires.1 c.loop-i.i c.loop-i-test.true)
-
-pub offset_bounds-count-k : goal.offset_bounds-count-k
-offset_bounds-count-k c = omega (arith, c.at_block-k.ensures, c.requires.1 c.loop-i.i c.loop-i-test.true)
-
-pub bounds-count-k : goal.bounds-count-k
-bounds-count-k c = omega (arith, c.at_block-k.ensures, c.requires.1 c.loop-i.i c.loop-i-test.true)
-
 pub loop-i-preserved : goal.loop-i-preserved
 unfolding clears_of
 loop-i-preserved c =
