@@ -8,7 +8,7 @@ use mathlib.Core.List.{List, [], ◌∷◌}
 use mathlib.Core.Option.{Option, none, some}
 use lib.Dec.{not_T}
 use lib.ListN.{length, length-map}
-use Rattle.rules.specs.Lists.{all, mem}
+use Rattle.rules.specs.Lists.{mem}
 use Rattle.rules.specs.Graph.{Block, Graph, block_at, numbers_of}
 use Rattle.rules.specs.Forward.{through, leaves_at, goal}
 use Rattle.rules.proofs.Membership.{In, test, mem→}

@@ -9,7 +9,6 @@ use lib.ListN.{length}
 use borrow.Author.Tests.{ne_eqb, eqb-true, ltb-true, ltb-false}
 use Rattle.rules.specs.declared.Record.{Record}
 use Rattle.rules.specs.declared.Record.TheVariants.{Block, Arm, Outside}
-use Rattle.rules.specs.Graph as graph
 use Rattle.rules.specs.Records.{leaving, arms_of}
 use Rattle.rules.specs.Refusals.{place_of, arm_count, last_of, listed, record_checks, all_checks, Clear}
 use Rattle.rules.proofs.Verdicts.{clear_parts}

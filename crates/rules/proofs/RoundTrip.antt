@@ -12,7 +12,6 @@ use Rattle.limits.specs.Limits.{size, most_bytes, numbers, marks_below, ends_bel
 use Rattle.lists.proofs.Choices.{cond_elim, split_eq, split_bool}
 use Rattle.rules.specs.declared.Record.{Record}
 use Rattle.rules.specs.declared.Record.TheVariants.{Outside}
-use Rattle.rules.specs.Graph as graph
 use Rattle.rules.specs.Records.{little, bytes_of, gap_zero, block_of, arm_of, record_of, fields, block_bytes, arm_bytes, record_at, before, records, graph_of, written}
 use Rattle.rules.specs.Refusals.{record_checks, all_checks, panic_checks, checks, Clear, verdict}
 use Rattle.rules.specs.Outcome.{refusal, refused, back_of, write_back}

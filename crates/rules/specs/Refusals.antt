@@ -5,7 +5,6 @@ use Rattle.limits.specs.Limits.{size, most_bytes, most_arms}
 use Rattle.rules.specs.declared.Record.{Record}
 use Rattle.rules.specs.declared.Record.TheVariants.{Block, Arm, Outside}
 use Rattle.rules.specs.declared.Verdict.{Verdict}
-use Rattle.rules.specs.Graph as graph
 use Rattle.rules.specs.Graph.{Graph, is_entry}
 use Rattle.rules.specs.Records.{records, graph_of}
 

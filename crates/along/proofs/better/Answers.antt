@@ -8,19 +8,17 @@ pub returns-in_default : goal.returns-in_default
 returns-in_default c = let a = c.args in first_one a.heft.now a.best a.q c.in_default.is
 
 pub offset_bounds-heft-x : goal.offset_bounds-heft-x
-offset_bounds-heft-x c = let s = c in omega (arith, held s.args.best _ arms c.in-Arm.is s.requires.1)
+offset_bounds-heft-x c = omega (arith, held c.args.best _ arms c.in-Arm.is c.requires.1)
 
 pub bounds-heft-x : goal.bounds-heft-x
-bounds-heft-x c = let s = c in omega (arith, s.requires.0, held s.args.best _ arms c.in-Arm.is s.requires.1)
+bounds-heft-x c = omega (arith, c.requires.0, held c.args.best _ arms c.in-Arm.is c.requires.1)
 
 pub returns-then-heft-x : goal.returns-then-heft-x
 returns-then-heft-x c =
-    let s = c in
-    let a = s.args in
-    later_one a.heft.now a.best a.q _ s.in-Arm.is c.if-heft-x.true
+    let a = c.args in
+    later_one a.heft.now a.best a.q _ c.in-Arm.is c.if-heft-x.true
 
 pub returns : goal.returns
 returns c =
-    let s = c in
-    let a = s.args in
-    former_one a.heft.now a.best a.q _ s.in-Arm.is c.if-heft-x.false
+    let a = c.args in
+    former_one a.heft.now a.best a.q _ c.in-Arm.is c.if-heft-x.false

@@ -13,27 +13,22 @@ returns-then-is_marked c =
 
 pub returns-then-cold-there : goal.returns-then-cold-there
 returns-then-cold-there c =
-    let s = c in
-    let a = s.args in
+    let a = c.args in
     fits_other a.marks.now a.to.now a.heft.now a.seen.now a.cold a.whole a.likely a.low a.q
-    c.is_cold-there.result (sym s.if-is_marked.false ∙ s.is_marked.ensures) (c.is_cold-there.ensures ∙ ap is_cold c.byte_of.ensures)
+    c.is_cold-there.result (sym c.if-is_marked.false ∙ c.is_marked.ensures) (c.is_cold-there.ensures ∙ ap is_cold c.byte_of.ensures)
     (not-true _ c.if-cold-there.true)
 
 pub returns-then-w-low : goal.returns-then-w-low
 returns-then-w-low c =
-    let d = c in
-    let s = d in
-    let a = s.args in
+    let a = c.args in
     fits_light a.marks.now a.to.now a.heft.now a.seen.now a.cold a.whole a.likely a.low a.q
-    d.is_cold-there.result (sym s.if-is_marked.false ∙ s.is_marked.ensures) (d.is_cold-there.ensures ∙ ap is_cold d.byte_of.ensures)
-    (not-false _ d.if-cold-there.false) c.if-w-low.true
+    c.is_cold-there.result (sym c.if-is_marked.false ∙ c.is_marked.ensures) (c.is_cold-there.ensures ∙ ap is_cold c.byte_of.ensures)
+    (not-false _ c.if-cold-there.false) c.if-w-low.true
 
 pub returns : goal.returns
 returns c =
-    let d = c in
-    let s = d in
-    let a = s.args in
+    let a = c.args in
     c.at_least.ensures
     ∙ fits_share a.marks.now a.to.now a.heft.now a.seen.now a.cold a.whole a.likely a.low a.q
-    d.is_cold-there.result (sym s.if-is_marked.false ∙ s.is_marked.ensures) (d.is_cold-there.ensures ∙ ap is_cold d.byte_of.ensures)
-    (not-false _ d.if-cold-there.false) c.if-w-low.false
+    c.is_cold-there.result (sym c.if-is_marked.false ∙ c.is_marked.ensures) (c.is_cold-there.ensures ∙ ap is_cold c.byte_of.ensures)
+    (not-false _ c.if-cold-there.false) c.if-w-low.false

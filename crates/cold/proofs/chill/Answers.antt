@@ -8,24 +8,19 @@ cold_marks-requires c = (joins_are _ _ _ _ _ (sym c.joins.ensures ∙ c.if-joins
 
 pub add_arms-requires : goal.add_arms-requires
 add_arms-requires c =
-    let q = c in
-    let d = q in
-    let x = d.args in
-    let answer = chill_room x.first.now x.count.now x.to.now x.k x.marks.now x.cold.now d.requires x.ins.now x.entry _ q.wide-b.ensures _ _
-    (sym q.joins.ensures ∙ q.if-joins.true) c.entry_of-f.ensures c.entry_of-c.ensures in
+    let x = c.args in
+    let answer = chill_room x.first.now x.count.now x.to.now x.k x.marks.now x.cold.now c.requires x.ins.now x.entry _ c.wide-b.ensures _ _
+    (sym c.joins.ensures ∙ c.if-joins.true) c.entry_of-f.ensures c.entry_of-c.ensures in
     record { count_bound = answer.0; by_index = answer.1 }
 
 pub returns-then-joins : goal.returns-then-joins
 returns-then-joins c =
-    let q = c in
-    let d = q in
-    let x = d.args in
-    chill_yes x.first.now x.count.now x.to.now x.k x.marks.now x.cold.now d.requires x.ins.now x.entry _ q.wide-b.ensures _ _ _ _ c.cold_marks.ensures
-    (sym q.joins.ensures ∙ q.if-joins.true) c.entry_of-f.ensures c.entry_of-c.ensures c.add_arms.ensures
+    let x = c.args in
+    chill_yes x.first.now x.count.now x.to.now x.k x.marks.now x.cold.now c.requires x.ins.now x.entry _ c.wide-b.ensures _ _ _ _ c.cold_marks.ensures
+    (sym c.joins.ensures ∙ c.if-joins.true) c.entry_of-f.ensures c.entry_of-c.ensures c.add_arms.ensures
 
 pub returns : goal.returns
 returns c =
-    let d = c in
-    let x = d.args in
-    chill_no x.first.now x.count.now x.to.now x.k x.marks.now x.cold.now d.requires x.ins.now x.entry _ c.wide-b.ensures
+    let x = c.args in
+    chill_no x.first.now x.count.now x.to.now x.k x.marks.now x.cold.now c.requires x.ins.now x.entry _ c.wide-b.ensures
     (sym c.joins.ensures ∙ c.if-joins.false)

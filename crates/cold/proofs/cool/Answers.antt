@@ -10,10 +10,9 @@ count_cold-requires c = record { linked = c.requires; counts = zeros }
 
 pub settle-requires : goal.settle-requires
 settle-requires c =
-    let d = c in
     record {
-      linked = d.requires.0;
-      marks = d.requires.1;
+      linked = c.requires.0;
+      marks = c.requires.1;
       arms = c.count_ins.ensures;
       cold = c.count_cold.ensures;
     }

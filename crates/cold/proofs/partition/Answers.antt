@@ -17,32 +17,27 @@ splits-requires c = marks_sized c.requires.graph c.args.listed.now c.args.marks.
 
 pub gather-split-requires : goal.gather-split-requires
 gather-split-requires c =
-    let d = c in
-    let long : length d.args.o.block ≡ blocks = search rules in
-    record { len_le_blocks = (d.requires.fits, long, (marks_sized c.requires.graph c.args.listed.now c.args.marks.now c.args.n c.requires.over c.requires.stands).2, search rules); block_bound = omega (arith, sides_fit d.args.marks.now d.args.o (omega (arith, d.requires.fits, long)), d.requires.fits) }
+    let long : length c.args.o.block ≡ blocks = search rules in
+    record { len_le_blocks = (c.requires.fits, long, (marks_sized c.requires.graph c.args.listed.now c.args.marks.now c.args.n c.requires.over c.requires.stands).2, search rules); block_bound = omega (arith, sides_fit c.args.marks.now c.args.o (omega (arith, c.requires.fits, long)), c.requires.fits) }
 
 pub gather-end-requires : goal.gather-end-requires
 gather-end-requires c =
-    let d = c in
     let g = c.gather-split.ensures in
-    let long : length d.args.o.block ≡ blocks = search rules in
-    record { len_le_blocks = (d.requires.fits, long, (marks_sized c.requires.graph c.args.listed.now c.args.marks.now c.args.n c.requires.over c.requires.stands).2, search rules); block_bound = omega (arith, g.ends, sides_fit d.args.marks.now d.args.o (omega (arith, d.requires.fits, long)), d.requires.fits) }
+    let long : length c.args.o.block ≡ blocks = search rules in
+    record { len_le_blocks = (c.requires.fits, long, (marks_sized c.requires.graph c.args.listed.now c.args.marks.now c.args.n c.requires.over c.requires.stands).2, search rules); block_bound = omega (arith, g.ends, sides_fit c.args.marks.now c.args.o (omega (arith, c.requires.fits, long)), c.requires.fits) }
 
 -- ---- the answers
 pub returns-then-splits : goal.returns-then-splits
 returns-then-splits c t k s within =
-    let q = c in
-    let d = q in
-    let x = d.args in
+    let x = c.args in
     let long : length x.o.block ≡ blocks = search rules in
-    let f = q.find-e in
+    let f = c.find-e in
     let g = c.gather-split.ensures in
-    parted t x.listed.now x.marks.now x.n k x.o within f.result f.ensures (omega (arith, d.requires.fits, long)) _ _ _ _ _ (sym q.splits.ensures ∙ q.if-splits.true) refl g c.gather-end.ensures
+    parted t x.listed.now x.marks.now x.n k x.o within f.result f.ensures (omega (arith, c.requires.fits, long)) _ _ _ _ _ (sym c.splits.ensures ∙ c.if-splits.true) refl g c.gather-end.ensures
 
 pub returns : goal.returns
 returns c t k s within =
-    let d = c in
-    let x = d.args in
+    let x = c.args in
     let long : length x.o.block ≡ blocks = search rules in
     let f = c.find-e in
     unparted t x.listed.now x.marks.now x.n k x.o within f.result f.ensures (sym c.splits.ensures ∙ c.if-splits.false) long

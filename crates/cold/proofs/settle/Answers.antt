@@ -13,25 +13,22 @@ sweep-joined-requires c = c.loop-n.invariant.0
 pub returns-then-joined-eq0 : goal.returns-then-joined-eq0
 returns-then-joined-eq0 c =
     let l = c.loop-n in
-    let d = c in
-    let x = d.args in
-    settle_last (links x.listed.now x.first.now x.count.now x.to.now x.n) d.requires.linked x.entry x.ins.now x.marks.now l.marks l.cold _ _ _
+    let x = c.args in
+    settle_last (links x.listed.now x.first.now x.count.now x.to.now x.n) c.requires.linked x.entry x.ins.now x.marks.now l.marks l.cold _ _ _
     l.invariant.0 c.sweep-joined.ensures l.invariant.1 c.if-joined-eq0.true
 
 pub loop-n-smaller : goal.loop-n-smaller
 loop-n-smaller c =
     let l = c.loop-n in
-    let d = c in
-    let x = d.args in
-    settle_less (links x.listed.now x.first.now x.count.now x.to.now x.n) d.requires.linked x.entry x.ins.now x.marks.now l.marks l.cold _ _ _
+    let x = c.args in
+    settle_less (links x.listed.now x.first.now x.count.now x.to.now x.n) c.requires.linked x.entry x.ins.now x.marks.now l.marks l.cold _ _ _
     l.invariant.0 c.sweep-joined.ensures c.if-joined-eq0.false
 
 pub loop-n-preserved : goal.loop-n-preserved
 loop-n-preserved c =
     let l = c.loop-n in
-    let d = c in
-    let x = d.args in
+    let x = c.args in
     let w = links x.listed.now x.first.now x.count.now x.to.now x.n in (
-      settle_more w d.requires.linked x.entry x.ins.now x.marks.now l.marks l.cold _ _ _ l.invariant.0 c.sweep-joined.ensures,
-      settle_on w d.requires.linked x.entry x.ins.now x.marks.now l.marks l.cold _ _ _ l.invariant.0 c.sweep-joined.ensures l.invariant.1,
+      settle_more w c.requires.linked x.entry x.ins.now x.marks.now l.marks l.cold _ _ _ l.invariant.0 c.sweep-joined.ensures,
+      settle_on w c.requires.linked x.entry x.ins.now x.marks.now l.marks l.cold _ _ _ l.invariant.0 c.sweep-joined.ensures l.invariant.1,
     )

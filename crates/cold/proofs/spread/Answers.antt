@@ -19,20 +19,18 @@ splits-requires c =
 
 pub cool-requires : goal.cool-requires
 cool-requires c =
-    let d = c in
-    let x = d.args in (
-      over_linked d.requires.graph x.listed.now x.marks.now x.first.now x.count.now x.to.now x.n d.requires.over d.requires.stands d.requires.whole,
+    let x = c.args in (
+      over_linked c.requires.graph x.listed.now x.marks.now x.first.now x.count.now x.to.now x.n c.requires.over c.requires.stands c.requires.whole,
       (marks_sized c.requires.graph c.args.listed.now c.args.marks.now c.args.n
           (over_marks c.requires.graph c.args.listed.now c.args.marks.now c.args.first.now c.args.count.now c.args.to.now c.args.n c.requires.over) c.requires.stands).2,
     )
 
 pub returns-then-splits : goal.returns-then-splits
 returns-then-splits c t k s whole =
-    let q = c in
-    let x = q.args in
-    let f = q.find-e in
+    let x = c.args in
+    let f = c.find-e in
     spread_settled t x.listed.now x.marks.now x.first.now x.count.now x.to.now x.n k s f.result f.ensures whole
-    (sym q.splits.ensures ∙ q.if-splits.true) _ c.cool.ensures
+    (sym c.splits.ensures ∙ c.if-splits.true) _ c.cool.ensures
 
 pub returns-else-splits : goal.returns-else-splits
 returns-else-splits c t k s whole =

@@ -16,9 +16,8 @@ loop-i-init c =
 pub chill-one-requires : goal.chill-one-requires
 chill-one-requires c =
     let l = c.loop-i in
-    let d = c in
-    let x = d.args in
-    sweep_chills (links x.listed.now x.first.now x.count.now x.to.now x.n) d.requires.linked x.entry x.marks.now l.marks l.cold l.i l.joined (omega arith) l.invariant.2
+    let x = c.args in
+    sweep_chills (links x.listed.now x.first.now x.count.now x.to.now x.n) c.requires.linked x.entry x.marks.now l.marks l.cold l.i l.joined (omega arith) l.invariant.2
 
 pub overflow_add-joined : goal.overflow_add-joined
 overflow_add-joined c = omega (arith, chill_one c.chill-one.ensures)
@@ -26,12 +25,11 @@ overflow_add-joined c = omega (arith, chill_one c.chill-one.ensures)
 pub loop-i-preserved : goal.loop-i-preserved
 loop-i-preserved c =
     let l = c.loop-i in
-    let d = c in
-    let x = d.args in (
+    let x = c.args in (
       search rules,
       omega (arith, chill_one c.chill-one.ensures),
-      sweep_more (links x.listed.now x.first.now x.count.now x.to.now x.n) d.requires.linked x.entry x.marks.now l.marks l.cold l.i l.joined (omega arith) l.invariant.2
-          x.ins.now d.requires.arms _ _ _ c.chill-one.ensures,
+      sweep_more (links x.listed.now x.first.now x.count.now x.to.now x.n) c.requires.linked x.entry x.marks.now l.marks l.cold l.i l.joined (omega arith) l.invariant.2
+          x.ins.now c.requires.arms _ _ _ c.chill-one.ensures,
     )
 
 pub returns : goal.returns

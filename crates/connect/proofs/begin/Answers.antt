@@ -10,6 +10,5 @@ returns-then-k-eq0 c = rw c.if-k-eq0.true refl
 
 pub returns : goal.returns
 returns c =
-    let d = c in
-    let a = d.args in
-    c.wide.ensures ∙ begin_before a.ends.now a.k d.if-k-eq0.false
+    let a = c.args in
+    c.wide.ensures ∙ begin_before a.ends.now a.k c.if-k-eq0.false

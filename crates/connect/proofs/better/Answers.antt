@@ -9,22 +9,17 @@ returns-in_default c = let a = c.args in no_other a.best a.other c.in_default.is
 
 pub returns-in_default-best : goal.returns-in_default-best
 returns-in_default-best c =
-    let o = c in
-    let a = o.args in
-    sym (ap link_of o.in-Trace.is) ∙ no_best a.best a.other _ o.in-Trace.is c.in_default-best.is
+    let a = c.args in
+    sym (ap link_of c.in-Trace.is) ∙ no_best a.best a.other _ c.in-Trace.is c.in_default-best.is
 
 pub returns-then-looser : goal.returns-then-looser
 returns-then-looser c =
-    let b = c in
-    let o = b in
-    let a = o.args in
-    sym (ap link_of o.in-Trace.is)
-    ∙ other_one a.best a.other _ o.in-Trace.is _ b.in-Trace-best.is (sym c.if-looser.true ∙ c.looser.ensures)
+    let a = c.args in
+    sym (ap link_of c.in-Trace.is)
+    ∙ other_one a.best a.other _ c.in-Trace.is _ c.in-Trace-best.is (sym c.if-looser.true ∙ c.looser.ensures)
 
 pub returns : goal.returns
 returns c =
-    let b = c in
-    let o = b in
-    let a = o.args in
-    sym (ap link_of b.in-Trace-best.is)
-    ∙ best_one a.best a.other _ o.in-Trace.is _ b.in-Trace-best.is (sym c.if-looser.false ∙ c.looser.ensures)
+    let a = c.args in
+    sym (ap link_of c.in-Trace-best.is)
+    ∙ best_one a.best a.other _ c.in-Trace.is _ c.in-Trace-best.is (sym c.if-looser.false ∙ c.looser.ensures)

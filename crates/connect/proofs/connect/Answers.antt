@@ -21,24 +21,19 @@ loop-from-init c =
 
 pub overflow_cast-from : goal.overflow_cast-from
 overflow_cast-from c =
-    let l = c in
-    let s = l in
-    omega (arith, c.loop-from-test.true, ends_many s.args.ends.now s.args.found s.requires.1.rising, s.requires.1.last)
+    omega (arith, c.loop-from-test.true, ends_many c.args.ends.now c.args.found c.requires.1.rising, c.requires.1.last)
 
 pub is_marked-requires : goal.is_marked-requires
 is_marked-requires c = c.loop-from.invariant.1.places.used_sized
 
 pub follow-len-requires : goal.follow-len-requires
 follow-len-requires c =
-    let i = c in
-    let s = i in
-    record { lent = s.requires.0; by_index = (s.args.found, turn_begins c.args.marks.now c.args.first.now c.args.count.now c.args.to.now c.args.heft.now c.args.order.now c.args.ends.now c.args.found c.loop-from.used c.loop-from.block c.loop-from.len c.loop-from.from
+    record { lent = c.requires.0; by_index = (c.args.found, turn_begins c.args.marks.now c.args.first.now c.args.count.now c.args.to.now c.args.heft.now c.args.order.now c.args.ends.now c.args.found c.loop-from.used c.loop-from.block c.loop-from.len c.loop-from.from
     c.loop-from-test.true c.loop-from.invariant.1 c.heads-head.result c.requires.1 c.heads-head.ensures (sym c.is_marked.ensures ∙ c.if-not-is_marked.true)) }
 
 pub loop-from-preserved : goal.loop-from-preserved
 loop-from-preserved c =
-    let l = c in
-    let a = l.args in
+    let a = c.args in
     let lt = c.loop-from-test.true in
     elim c.if-not-is_marked.branch [
       | then-not-is_marked w ↦
@@ -47,21 +42,19 @@ loop-from-preserved c =
           c.loop-from-test.true c.loop-from.invariant.1 c.heads-head.result c.requires.1 c.heads-head.ensures (e) in (
             omega (arith, lt),
             rw (w.used-is, w.block-is, w.len-is)
-                (turn_laid a.marks.now a.first.now a.count.now a.to.now a.heft.now a.order.now a.ends.now a.found l.loop-from.used l.loop-from.block l.loop-from.len l.loop-from.from lt
-                l.loop-from.invariant.1 _ _ _ e (w.follow-len.ensures a.found b)),
+                (turn_laid a.marks.now a.first.now a.count.now a.to.now a.heft.now a.order.now a.ends.now a.found c.loop-from.used c.loop-from.block c.loop-from.len c.loop-from.from lt
+                c.loop-from.invariant.1 _ _ _ e (w.follow-len.ensures a.found b)),
           ))
       | else-not-is_marked w ↦ (
           omega (arith, lt),
           rw (w.used-is, w.block-is, w.len-is)
-              (turn_used a.marks.now a.first.now a.count.now a.to.now a.heft.now a.order.now a.ends.now a.found l.loop-from.used l.loop-from.block l.loop-from.len l.loop-from.from lt
-              l.loop-from.invariant.1 (sym c.is_marked.ensures ∙ w.if-not-is_marked.false)),
+              (turn_used a.marks.now a.first.now a.count.now a.to.now a.heft.now a.order.now a.ends.now a.found c.loop-from.used c.loop-from.block c.loop-from.len c.loop-from.from lt
+              c.loop-from.invariant.1 (sym c.is_marked.ensures ∙ w.if-not-is_marked.false)),
         )
     ]
 
 pub returns : goal.returns
 returns c =
-    let l = c in
-    let s = l in
-    let a = s.args in
-    turns_over a.marks.now a.first.now a.count.now a.to.now a.heft.now a.order.now a.ends.now a.found l.loop-from.used l.loop-from.block l.loop-from.len l.loop-from.from
-    s.requires.1 c.loop-from-test.false l.loop-from.invariant.1
+    let a = c.args in
+    turns_over a.marks.now a.first.now a.count.now a.to.now a.heft.now a.order.now a.ends.now a.found c.loop-from.used c.loop-from.block c.loop-from.len c.loop-from.from
+    c.requires.1 c.loop-from-test.false c.loop-from.invariant.1

@@ -15,20 +15,18 @@ loop-i-init c =
 
 pub loop-i-preserved : goal.loop-i-preserved
 loop-i-preserved c =
-    let l = c in
-    let a = l.args in
-    let v = l.loop-i.invariant in (
+    let a = c.args in
+    let v = c.loop-i.invariant in (
       omega arith,
       omega arith,
       omega arith,
-      length-set l.loop-i.block l.loop-i.at _ ∙ v.3,
-      put_more (take a.len a.block.now) a.order.now l.loop-i.block a.from l.loop-i.i l.loop-i.at v.0 (omega arith) (omega arith) v.4,
+      length-set c.loop-i.block c.loop-i.at _ ∙ v.3,
+      put_more (take a.len a.block.now) a.order.now c.loop-i.block a.from c.loop-i.i c.loop-i.at v.0 (omega arith) (omega arith) v.4,
     )
 
 pub returns : goal.returns
 returns c =
-    let l = c in
-    let a = l.args in
-    let v = l.loop-i.invariant in
-    let e : l.loop-i.i ≡ a.end = omega arith in
+    let a = c.args in
+    let v = c.loop-i.invariant in
+    let e : c.loop-i.i ≡ a.end = omega arith in
     record { value = (omega arith, v.3); block_after = v.4 ∙ ap (λ (i : ℕ). take a.len a.block.now ++ slice a.from i a.order.now) e }

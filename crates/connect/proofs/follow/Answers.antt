@@ -21,18 +21,16 @@ pub overflow_cast-at : goal.overflow_cast-at
 overflow_cast-at c = omega (arith, (c.loop-link.invariant c.requires.by_index.0 c.requires.by_index.1).begins.goes.one, few _ _ _ _ _ _ _ _ (c.loop-link.invariant c.requires.by_index.0 c.requires.by_index.1).begins)
 
 pub mark-requires : goal.mark-requires
-mark-requires c = let l = c in ((c.loop-link.invariant c.requires.by_index.0 c.requires.by_index.1).begins.places.used_sized, omega (arith, (c.loop-link.invariant c.requires.by_index.0 c.requires.by_index.1).begins.goes.one, few _ _ _ _ _ _ _ _ (c.loop-link.invariant c.requires.by_index.0 c.requires.by_index.1).begins))
+mark-requires c = ((c.loop-link.invariant c.requires.by_index.0 c.requires.by_index.1).begins.places.used_sized, omega (arith, (c.loop-link.invariant c.requires.by_index.0 c.requires.by_index.1).begins.goes.one, few _ _ _ _ _ _ _ _ (c.loop-link.invariant c.requires.by_index.0 c.requires.by_index.1).begins))
 
 pub begin-requires : goal.begin-requires
-begin-requires c = let l = c in ((c.loop-link.invariant c.requires.by_index.0 c.requires.by_index.1).begins.joinable.ends_sized, omega (arith, (c.loop-link.invariant c.requires.by_index.0 c.requires.by_index.1).begins.goes.one, few _ _ _ _ _ _ _ _ (c.loop-link.invariant c.requires.by_index.0 c.requires.by_index.1).begins))
+begin-requires c = ((c.loop-link.invariant c.requires.by_index.0 c.requires.by_index.1).begins.joinable.ends_sized, omega (arith, (c.loop-link.invariant c.requires.by_index.0 c.requires.by_index.1).begins.goes.one, few _ _ _ _ _ _ _ _ (c.loop-link.invariant c.requires.by_index.0 c.requires.by_index.1).begins))
 
 pub copy-laid-requires : goal.copy-laid-requires
 copy-laid-requires c =
-    let e = c in
-    let l = e in
     let b = (c.loop-link.invariant c.requires.by_index.0 c.requires.by_index.1).begins in
     let begin = c.begin.ensures in
-    let end = e.wide-end.ensures in record { order_len = (b.joinable.order_sized, b.places.block_sized); from_le_end = (
+    let end = c.wide-end.ensures in record { order_len = (b.joinable.order_sized, b.places.block_sized); from_le_end = (
         omega (arith, begin, end, some_blocks _ _ _ _ _ _ _ _ b),
         omega (arith, end, within _ _ _ _ _ _ _ _ b, b.joinable.last),
         omega (arith, begin, end, room_for _ _ _ _ _ _ _ _ b _ c.mark.ensures.1),
@@ -40,8 +38,7 @@ copy-laid-requires c =
 
 pub overflow_sub-last : goal.overflow_sub-last
 overflow_sub-last c =
-    let e = c in
-    omega (arith, e.wide-end.ensures, some_blocks _ _ _ _ _ _ _ _ (c.loop-link.invariant c.requires.by_index.0 c.requires.by_index.1).begins)
+    omega (arith, c.wide-end.ensures, some_blocks _ _ _ _ _ _ _ _ (c.loop-link.invariant c.requires.by_index.0 c.requires.by_index.1).begins)
 
 pub offset_bounds-order-end : goal.offset_bounds-order-end
 offset_bounds-order-end c = omega (arith, c.wide-end.ensures, within _ _ _ _ _ _ _ _ (c.loop-link.invariant c.requires.by_index.0 c.requires.by_index.1).begins, (c.loop-link.invariant c.requires.by_index.0 c.requires.by_index.1).begins.joinable.last)
@@ -51,36 +48,22 @@ bounds-order-end c = omega (arith, c.wide-end.ensures, within _ _ _ _ _ _ _ _ (c
 
 pub next_trace-next-requires : goal.next_trace-next-requires
 next_trace-next-requires c =
-    let k = c in
-    let l = k in
-    (l.requires.lent, found_by _ _ _ _ _ _ _ _ (c.loop-link.invariant c.requires.by_index.0 c.requires.by_index.1).begins _ k.mark.ensures.0)
+    (c.requires.lent, found_by _ _ _ _ _ _ _ _ (c.loop-link.invariant c.requires.by_index.0 c.requires.by_index.1).begins _ c.mark.ensures.0)
 
 pub returns-in_default : goal.returns-in_default
 returns-in_default c found b =
-    let n = c in
-    let p = n in
-    let m = p in
-    let e = m in
-    let l = e in
-    let a = l.args in
+    let a = c.args in
     along_stop a.marks.now a.first.now a.count.now a.to.now a.heft.now a.order.now a.ends.now a.head.now a.used.now a.block.now a.len a.from found
-    l.loop-link.used l.loop-link.block l.loop-link.laid l.loop-link.at (l.loop-link.invariant found b) _ _ p.begin.ensures e.wide-end.ensures
-    _ _ _ m.mark.ensures (p.copy-laid.ensures.value, p.copy-laid.ensures.block_after) _ n.next_trace-next.ensures.best_by c.in_default.is
+    c.loop-link.used c.loop-link.block c.loop-link.laid c.loop-link.at (c.loop-link.invariant found b) _ _ c.begin.ensures c.wide-end.ensures
+    _ _ _ c.mark.ensures (c.copy-laid.ensures.value, c.copy-laid.ensures.block_after) _ c.next_trace-next.ensures.best_by c.in_default.is
 
 pub loop-link-smaller : goal.loop-link-smaller
 loop-link-smaller c =
-    let m = c in
-    let l = m in
-    fewer_left _ _ _ _ _ _ _ _ (c.loop-link.invariant c.requires.by_index.0 c.requires.by_index.1).begins _ m.mark.ensures.1
+    fewer_left _ _ _ _ _ _ _ _ (c.loop-link.invariant c.requires.by_index.0 c.requires.by_index.1).begins _ c.mark.ensures.1
 
 pub loop-link-preserved : goal.loop-link-preserved
 loop-link-preserved c found b =
-    let n = c in
-    let p = n in
-    let m = p in
-    let e = m in
-    let l = e in
-    let a = l.args in
+    let a = c.args in
     along_next a.marks.now a.first.now a.count.now a.to.now a.heft.now a.order.now a.ends.now a.head.now a.used.now a.block.now a.len a.from found
-    l.loop-link.used l.loop-link.block l.loop-link.laid l.loop-link.at (l.loop-link.invariant found b) _ _ p.begin.ensures e.wide-end.ensures
-    _ _ _ m.mark.ensures (p.copy-laid.ensures.value, p.copy-laid.ensures.block_after) _ n.next_trace-next.ensures.best_by _ c.in-Trace.is n.next_trace-next.ensures.unused
+    c.loop-link.used c.loop-link.block c.loop-link.laid c.loop-link.at (c.loop-link.invariant found b) _ _ c.begin.ensures c.wide-end.ensures
+    _ _ _ c.mark.ensures (c.copy-laid.ensures.value, c.copy-laid.ensures.block_after) _ c.next_trace-next.ensures.best_by _ c.in-Trace.is c.next_trace-next.ensures.unused

@@ -14,9 +14,7 @@ loop-k-init c = (omega arith, no_heads _ _)
 
 pub begin-at-requires : goal.begin-at-requires
 begin-at-requires c =
-    let l = c in
-    let s = l in
-    (s.requires.ends_sized, omega (arith, c.loop-k-test.true, ends_many s.args.ends.now s.args.found s.requires.rising, s.requires.last))
+    (c.requires.ends_sized, omega (arith, c.loop-k-test.true, ends_many c.args.ends.now c.args.found c.requires.rising, c.requires.last))
 
 pub offset_bounds-order-at : goal.offset_bounds-order-at
 offset_bounds-order-at c = omega (arith, c.begin-at.ensures, begin_low c.args.order.now c.args.ends.now c.args.found c.requires c.loop-k.k c.loop-k-test.true, c.requires.last)
@@ -26,9 +24,7 @@ bounds-order-at c = omega (arith, c.begin-at.ensures, begin_low c.args.order.now
 
 pub overflow_cast-head : goal.overflow_cast-head
 overflow_cast-head c =
-    let l = c in
-    let s = l in
-    omega (arith, c.loop-k-test.true, ends_many s.args.ends.now s.args.found s.requires.rising, s.requires.last)
+    omega (arith, c.loop-k-test.true, ends_many c.args.ends.now c.args.found c.requires.rising, c.requires.last)
 
 pub offset_bounds-head-n : goal.offset_bounds-head-n
 offset_bounds-head-n c = omega (arith, c.wide-n.ensures ∙ ap (λ (i : ℕ). get_or c.args.order.now i 0) c.begin-at.ensures, first_low c.args.order.now c.args.ends.now c.args.found c.requires c.loop-k.k c.loop-k-test.true)
@@ -38,14 +34,11 @@ bounds-head-n c = omega (arith, c.wide-n.ensures ∙ ap (λ (i : ℕ). get_or c.
 
 pub loop-k-preserved : goal.loop-k-preserved
 loop-k-preserved c =
-    let l = c in
-    let s = l in
     let lt = c.loop-k-test.true in
-    (omega (arith, lt), rw (c.wide-n.ensures ∙ ap (λ (i : ℕ). get_or c.args.order.now i 0) c.begin-at.ensures) (one_more s.args.order.now s.args.ends.now s.args.found s.requires l.loop-k.k lt l.loop-k.head l.loop-k.invariant.1))
+    (omega (arith, lt), rw (c.wide-n.ensures ∙ ap (λ (i : ℕ). get_or c.args.order.now i 0) c.begin-at.ensures) (one_more c.args.order.now c.args.ends.now c.args.found c.requires c.loop-k.k lt c.loop-k.head c.loop-k.invariant.1))
 
 pub returns : goal.returns
 returns c =
-    let l = c in
-    let a = l.args in
-    let e : l.loop-k.k ≡ a.found = omega (arith, c.loop-k-test.false, l.loop-k.invariant.0) in
-    all_heads a.order.now a.ends.now a.found l.loop-k.head (subst (λ (k : ℕ). Heading a.order.now a.ends.now k l.loop-k.head) e l.loop-k.invariant.1)
+    let a = c.args in
+    let e : c.loop-k.k ≡ a.found = omega (arith, c.loop-k-test.false, c.loop-k.invariant.0) in
+    all_heads a.order.now a.ends.now a.found c.loop-k.head (subst (λ (k : ℕ). Heading a.order.now a.ends.now k c.loop-k.head) e c.loop-k.invariant.1)

@@ -4,20 +4,15 @@ use Rattle.connect.proofs.looser.Goals as goal
 
 pub returns-then-a-b : goal.returns-then-a-b
 returns-then-a-b c =
-    let d = c in
-    let a = d.args in
-    looser_weight a.a a.b d.if-a-b.true
+    let a = c.args in
+    looser_weight a.a a.b c.if-a-b.true
 
 pub returns-then-a-b-2 : goal.returns-then-a-b-2
 returns-then-a-b-2 c =
-    let d = c in
-    let e = d in
-    let a = e.args in
-    looser_long a.a a.b e.if-a-b.false d.if-a-b-2.true
+    let a = c.args in
+    looser_long a.a a.b c.if-a-b.false c.if-a-b-2.true
 
 pub returns : goal.returns
 returns c =
-    let d = c in
-    let e = d in
-    let a = e.args in
-    looser_index a.a a.b e.if-a-b.false d.if-a-b-2.false
+    let a = c.args in
+    looser_index a.a a.b c.if-a-b.false c.if-a-b-2.false

@@ -22,9 +22,8 @@ bounds-piece-b c = omega (arith, c.wide-b.ensures, c.requires.piece_len.1)
 
 pub loop-len-init : goal.loop-len-init
 loop-len-init c =
-    let s = c in
-    let x = s.args in
-    let p = s.requires.piece_len in
+    let x = c.args in
+    let p = c.requires.piece_len in
     let w = c.wide-b in
     let on = c.put-len.ensures.holds ∙ ap (λ l. frame x.root 0 ∷ l) (frames_none _ _ 0 (omega arith)) in (
       join_sized x.piece.now w.result (x.root + 1) p.0,
@@ -38,9 +37,8 @@ take-p-requires c = let l = c.loop-len in (c.loop-len-test.true, omega (arith, l
 
 pub gather-len-requires : goal.gather-len-requires
 gather-len-requires c =
-    let s = c in
     let l = c.loop-len in
-    let p = c.take-p in record { next_len = (s.requires.sized.0.next_sized, s.requires.sized.0.from_sized, listing s.requires.sized.1.has p.result.block _ c.entry_of-k.ensures, omega arith); piece_len = (l.invariant.0, omega (arith, p.ensures.less, l.invariant.1), p.ensures.roomy) }
+    let p = c.take-p in record { next_len = (c.requires.sized.0.next_sized, c.requires.sized.0.from_sized, listing c.requires.sized.1.has p.result.block _ c.entry_of-k.ensures, omega arith); piece_len = (l.invariant.0, omega (arith, p.ensures.less, l.invariant.1), p.ensures.roomy) }
 
 pub loop-len-smaller : goal.loop-len-smaller
 loop-len-smaller c =
@@ -61,8 +59,7 @@ loop-len-preserved c =
 
 pub returns : goal.returns
 returns c =
-    let s = c in
-    let x = s.args in
-    let p = s.requires.piece_len in
+    let x = c.args in
+    let p = c.requires.piece_len in
     let l = c.loop-len in
     record { piece_len_2 = l.invariant.0; by_index = λ f h. reach_end f x.root (x.root + 1) _ _ _ (add-one x.root) (frames_none _ _ _ c.loop-len-test.false) (l.invariant.2 x.piece.now p.0 p.2 refl f h) }

@@ -15,13 +15,12 @@ link_all-requires c =
 
 pub sort-requires : goal.sort-requires
 sort-requires c =
-    let s = c in
-    let x = s.args in
+    let x = c.args in
     let o = c.finished-o in
     let f = ins x.listed.now x.first.now x.count.now x.to.now x.n in
     let l = c.link_all.ensures in
-    let short = lent_short x.listed.now x.first.now x.count.now x.to.now x.n o.result (search rules) o.ensures s.requires in
-    let low = lent_low x.listed.now x.first.now x.count.now x.to.now x.n o.result (search rules) o.ensures s.requires in
+    let short = lent_short x.listed.now x.first.now x.count.now x.to.now x.n o.result (search rules) o.ensures c.requires in
+    let low = lent_low x.listed.now x.first.now x.count.now x.to.now x.n o.result (search rules) o.ensures c.requires in
     record { sized = (l.sized_2, record { lists = f; has = l.lists }); n_le_blocks = (short, search rules, low); piece_len = (search rules, λ y. zero_get blocks y) }
 
 pub returns : goal.returns

@@ -49,9 +49,6 @@ bounds-next-k c =
     let h = within _ _ _ _ _ _ _ _ _ (c.loop-k.invariant.2 p.2.list p.2.linked) c.loop-k-test.true in
     omega (arith, h, c.loop-k-test.true)
 
-pub entry_of-requires : goal.entry_of-requires
-entry_of-requires c = search rules
-
 pub loop-k-smaller-then-entry_of-gt0 : goal.loop-k-smaller-then-entry_of-gt0
 loop-k-smaller-then-entry_of-gt0 c =
     let p = c.requires.next_len in
@@ -68,34 +65,31 @@ loop-k-preserved-then-entry_of-gt0 c =
 
 pub offset_bounds-piece-b : goal.offset_bounds-piece-b
 offset_bounds-piece-b c =
-    let s = c in
     let l = c.loop-k in
     let pos = c.loop-k-test.true in
-    let p = s.requires.next_len in
-    let m = get_or s.args.from.now (l.k - 1) 0 in
+    let p = c.requires.next_len in
+    let m = get_or c.args.from.now (l.k - 1) 0 in
     let low : m < blocks = p.2.low m (first_in (l.invariant.2 p.2.list p.2.linked) pos) in
     omega (arith, low, c.wide-b.ensures)
 
 pub bounds-piece-b : goal.bounds-piece-b
 bounds-piece-b c =
-    let s = c in
     let l = c.loop-k in
     let pos = c.loop-k-test.true in
-    let p = s.requires.next_len in
-    let m = get_or s.args.from.now (l.k - 1) 0 in
+    let p = c.requires.next_len in
+    let m = get_or c.args.from.now (l.k - 1) 0 in
     let low : m < blocks = p.2.low m (first_in (l.invariant.2 p.2.list p.2.linked) pos) in
     omega (arith, low, c.wide-b.ensures)
 
 pub put-len-requires : goal.put-len-requires
 put-len-requires c =
-    let s = c in
     let l = c.loop-k in
     let pos = c.loop-k-test.true in
-    let p = s.requires.next_len in
-    let m = get_or s.args.from.now (l.k - 1) 0 in
+    let p = c.requires.next_len in
+    let m = get_or c.args.from.now (l.k - 1) 0 in
     let low : m < blocks = p.2.low m (first_in (l.invariant.2 p.2.list p.2.linked) pos) in
     let free : get_or l.piece m 0 ≡ 0 = omega (arith, c.entry_of.ensures, c.if-entry_of-gt0.false) in
-    (omega (arith, l.invariant.1, s.requires.piece_len.1, marked_room l.piece blocks m low free), l.invariant.3)
+    (omega (arith, l.invariant.1, c.requires.piece_len.1, marked_room l.piece blocks m low free), l.invariant.3)
 
 pub loop-k-smaller : goal.loop-k-smaller
 loop-k-smaller c =
@@ -107,16 +101,15 @@ loop-k-smaller c =
 
 pub loop-k-preserved : goal.loop-k-preserved
 loop-k-preserved c =
-    let s = c in
     let l = c.loop-k in
     let pos = c.loop-k-test.true in
-    let p = s.requires.next_len in
-    let m = get_or s.args.from.now (l.k - 1) 0 in
+    let p = c.requires.next_len in
+    let m = get_or c.args.from.now (l.k - 1) 0 in
     let low : m < blocks = p.2.low m (first_in (l.invariant.2 p.2.list p.2.linked) pos) in
     let free : get_or l.piece m 0 ≡ 0 = omega (arith, c.entry_of.ensures, c.if-entry_of-gt0.false) in
     let b = c.wide-b.ensures in (
-      join_sized l.piece _ s.args.number l.invariant.0,
-      omega (arith, l.invariant.1, c.put-len.ensures.more, join_more l.piece m c.wide-b.result s.args.number b l.invariant.0 low free p.3),
+      join_sized l.piece _ c.args.number l.invariant.0,
+      omega (arith, l.invariant.1, c.put-len.ensures.more, join_more l.piece m c.wide-b.result c.args.number b l.invariant.0 low free p.3),
       λ w h. turn_new_on (l.invariant.2 w h) pos _ _ 0 refl c.put-len.ensures.holds c.wide-k.ensures b free (omega (arith, low, l.invariant.0)) p.3,
       c.put-len.ensures.roomy,
     )

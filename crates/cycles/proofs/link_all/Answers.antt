@@ -16,11 +16,10 @@ loop-i-init c =
 
 pub link_arms-requires : goal.link_arms-requires
 link_arms-requires c =
-    let s = c in
     let l = c.loop-i in
     let h = c.loop-i-test.true in
-    let x = s.args in
-    let p = s.requires.linkable in
+    let x = c.args in
+    let p = c.requires.linkable in
     let m = get_or x.listed.now l.i 0 in
     let ec = c.entry_of-c.ensures in
     let eq = c.entry_of-q.ensures in record { sized = (
@@ -33,17 +32,15 @@ link_arms-requires c =
 
 pub overflow_add-at : goal.overflow_add-at
 overflow_add-at c =
-    let s = c in
     let l = c.loop-i in
     let h = c.loop-i-test.true in
-    let x = s.args in
-    omega (arith, c.entry_of-c.ensures, l.invariant.1, s.requires.linkable.room, arms_fit x.listed.now x.count.now l.i x.n h)
+    let x = c.args in
+    omega (arith, c.entry_of-c.ensures, l.invariant.1, c.requires.linkable.room, arms_fit x.listed.now x.count.now l.i x.n h)
 
 pub loop-i-preserved : goal.loop-i-preserved
 loop-i-preserved c =
-    let s = c in
     let l = c.loop-i in
-    let x = s.args in
+    let x = c.args in
     let ec = c.entry_of-c.ensures in
     let eq = c.entry_of-q.ensures in (
       search rules,
@@ -54,8 +51,7 @@ loop-i-preserved c =
 
 pub returns : goal.returns
 returns c =
-    let s = c in
     let l = c.loop-i in
-    let x = s.args in
+    let x = c.args in
     let e : l.i ≡ x.n = omega (arith, l.invariant.0) in
-    record { sized_2 = l.invariant.2; lists = lists_done x.listed.now x.first.now x.count.now x.to.now l.at l.i x.n e l.invariant.1 s.requires.linkable.room l.invariant.3 }
+    record { sized_2 = l.invariant.2; lists = lists_done x.listed.now x.first.now x.count.now x.to.now l.at l.i x.n e l.invariant.1 c.requires.linkable.room l.invariant.3 }

@@ -12,16 +12,14 @@ loop-j-init c = (search rules, c.requires.sized.0, λ f h. enter_none f c.args.m
 
 pub link-requires : goal.link-requires
 link-requires c =
-    let s = c in
     let l = c.loop-j in
     let h = c.loop-j-test.true in
-    (l.invariant.1, omega (arith, h, s.requires.sized.3), s.requires.sized.4, s.requires.by_index l.j h)
+    (l.invariant.1, omega (arith, h, c.requires.sized.3), c.requires.sized.4, c.requires.by_index l.j h)
 
 pub loop-j-preserved : goal.loop-j-preserved
 loop-j-preserved c =
-    let s = c in
     let l = c.loop-j in
-    let x = s.args in
+    let x = c.args in
     (search rules, c.link.ensures.sized, λ f h. enter_more f x.m x.to.now x.q x.at l.j (c.link.ensures.by_index (entered f x.m x.to.now x.q l.j) (l.invariant.2 f h)))
 
 pub returns : goal.returns

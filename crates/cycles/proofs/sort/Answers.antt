@@ -17,10 +17,9 @@ loop-i-preserved-then-entry_of-gt0 c =
 
 pub collect-requires : goal.collect-requires
 collect-requires c =
-    let s = c in
     let l = c.loop-i in
     let h = c.loop-i-test.true in
-    record { sized = s.requires.sized; piece_len = (l.invariant.1, s.requires.n_le_blocks.2 l.i h, omega (arith, c.entry_of.ensures, c.if-entry_of-gt0.false)) }
+    record { sized = c.requires.sized; piece_len = (l.invariant.1, c.requires.n_le_blocks.2 l.i h, omega (arith, c.entry_of.ensures, c.if-entry_of-gt0.false)) }
 
 pub loop-i-preserved : goal.loop-i-preserved
 loop-i-preserved c =

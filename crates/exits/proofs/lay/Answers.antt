@@ -21,23 +21,11 @@ loop-i-init c =
     let f = fits_blocks x.marks.now x.ends.now x.weight.now (arm_tables x.ofirst.now x.ocount.now x.oto.now x.oargs.now x.oheft.now) x.o x.split c.requires.layable in
     laying_start x.marks.now x.ends.now x.weight.now _ _ x.split _ _ _ _ f.0 f.1 f.2 c.requires.unlaid
 
-pub offset_bounds-o-i : goal.offset_bounds-o-i
-offset_bounds-o-i c = search rules
-
-pub bounds-o-i : goal.bounds-o-i
-bounds-o-i c = search rules
-
 pub entry_of-f-requires : goal.entry_of-f-requires
 entry_of-f-requires c = (fits_order c.args.marks.now c.args.ends.now c.args.weight.now (arm_tables c.args.ofirst.now c.args.ocount.now c.args.oto.now c.args.oargs.now c.args.oheft.now) c.args.o c.args.split c.requires.layable).2.first
 
 pub entry_of-c-requires : goal.entry_of-c-requires
 entry_of-c-requires c = (fits_order c.args.marks.now c.args.ends.now c.args.weight.now (arm_tables c.args.ofirst.now c.args.ocount.now c.args.oto.now c.args.oargs.now c.args.oheft.now) c.args.o c.args.split c.requires.layable).2.count
-
-pub next_of-next-requires : goal.next_of-next-requires
-next_of-next-requires c = search rules
-
-pub wide-requires : goal.wide-requires
-wide-requires c = search rules
 
 pub bounds-ends-wide : goal.bounds-ends-wide
 bounds-ends-wide c =
@@ -57,12 +45,6 @@ leaving-e-requires c =
     let t = c.loop-i-test.true in
     let w = room (only_blocks [] x.marks.now x.ends.now x.weight.now) (arm_tables x.ofirst.now x.ocount.now x.oto.now x.oargs.now x.oheft.now) x.o x.split y.1 y.0 y.4 l.invariant t in
     record { first_len = (y.2.first, y.2.count, y.2.to); n_bound = y.3 _ }
-
-pub overflow_add-new : goal.overflow_add-new
-overflow_add-new c = search rules
-
-pub overflow_cast-new : goal.overflow_cast-new
-overflow_cast-new c = search rules
 
 pub leave-requires : goal.leave-requires
 leave-requires c =
@@ -111,9 +93,6 @@ overflow_add-i c =
     let t = c.loop-i-test.true in
     let y = fits_order c.args.marks.now c.args.ends.now c.args.weight.now (arm_tables c.args.ofirst.now c.args.ocount.now c.args.oto.now c.args.oargs.now c.args.oheft.now) c.args.o c.args.split c.requires.layable in
     record { fits = omega (arith, t, y.0) }
-
-pub bridge_arm-arm-requires : goal.bridge_arm-arm-requires
-bridge_arm-arm-requires c = search rules
 
 pub loop-i-smaller-then-arm-eq-ARMS : goal.loop-i-smaller-then-arm-eq-ARMS
 loop-i-smaller-then-arm-eq-ARMS c =

@@ -15,9 +15,6 @@ pub loop-i-init : goal.loop-i-init
 unfolding clears_of
 loop-i-init c = (search rules, refl)
 
-pub at_block-k-requires : goal.at_block-k-requires
-at_block-k-requires c = search rules
-
 pub loop-i-preserved : goal.loop-i-preserved
 unfolding clears_of
 loop-i-preserved c =

@@ -16,9 +16,8 @@ loop-j-init c =
 
 pub mark-requires : goal.mark-requires
 mark-requires c =
-    let s = c in
     let l = c.loop-j in
-    (l.invariant.1, s.requires.by_index l.j c.loop-j-test.true)
+    (l.invariant.1, c.requires.by_index l.j c.loop-j-test.true)
 
 pub loop-j-preserved-then-goes_back : goal.loop-j-preserved-then-goes_back
 loop-j-preserved-then-goes_back c =

@@ -16,11 +16,10 @@ loop-i-init c =
 
 pub mark_arms-requires : goal.mark_arms-requires
 mark_arms-requires c =
-    let s = c in
     let l = c.loop-i in
     let h = c.loop-i-test.true in
-    let x = s.args in
-    let p = s.requires.enterable in
+    let x = c.args in
+    let p = c.requires.enterable in
     let m = get_or x.listed.now l.i 0 in
     let eq = c.entry_of-q.ensures in
     let ek = c.entry_of-k.ensures in record { to_len = (p.to_sized, p.place_sized, p.piece_sized, l.invariant.1, omega (arith, eq, ek, p.fits m)); by_index = λ j k. subst (λ (z : ℕ). get_or x.to.now (z + j) 0 < blocks) (sym eq) (p.goes l.i h j (omega (arith, k, ek))) }

@@ -13,9 +13,8 @@ loop-i-init c =
 
 pub mark-requires : goal.mark-requires
 mark-requires c =
-    let s = c in
     let l = c.loop-i in
-    (l.invariant.1.1, s.requires.n_le_blocks.4 l.i c.loop-i-test.true)
+    (l.invariant.1.1, c.requires.n_le_blocks.4 l.i c.loop-i-test.true)
 
 pub loop-i-preserved-then-is_head : goal.loop-i-preserved-then-is_head
 loop-i-preserved-then-is_head c =

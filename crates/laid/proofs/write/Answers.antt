@@ -17,12 +17,10 @@ put_places-requires c =
 
 pub put_arms-requires : goal.put_arms-requires
 put_arms-requires c =
-    let d = c in
-    let x = d.args in
-    let w = d.requires.1 in record { n_le_blocks = (w.few, w.first_sized, w.count_sized); arms_within = w.within; n_in_bounds = omega (arith, w.fits, c.put_places.auto, ap length (only_listed_lem (only_blocks x.listed.now x.marks.now x.ends.now x.weight.now) (arm_tables x.first.now x.count.now x.to.now x.args.now x.heft.now) x.n), arms_size (only_blocks x.listed.now x.marks.now x.ends.now x.weight.now) (arm_tables x.first.now x.count.now x.to.now x.args.now x.heft.now) x.exits.now x.heads.now x.split x.n d.requires.0.are) }
+    let x = c.args in
+    let w = c.requires.1 in record { n_le_blocks = (w.few, w.first_sized, w.count_sized); arms_within = w.within; n_in_bounds = omega (arith, w.fits, c.put_places.auto, ap length (only_listed_lem (only_blocks x.listed.now x.marks.now x.ends.now x.weight.now) (arm_tables x.first.now x.count.now x.to.now x.args.now x.heft.now) x.n), arms_size (only_blocks x.listed.now x.marks.now x.ends.now x.weight.now) (arm_tables x.first.now x.count.now x.to.now x.args.now x.heft.now) x.exits.now x.heads.now x.split x.n c.requires.0.are) }
 
 pub returns : goal.returns
 returns c =
-    let d = c in
-    let x = d.args in
-    c.put_arms.ensures ∙ both_parts (only_blocks x.listed.now x.marks.now x.ends.now x.weight.now) (arm_tables x.first.now x.count.now x.to.now x.args.now x.heft.now) x.exits.now x.heads.now x.split x.n d.requires.0.are x.out.now _ c.put_places.ensures
+    let x = c.args in
+    c.put_arms.ensures ∙ both_parts (only_blocks x.listed.now x.marks.now x.ends.now x.weight.now) (arm_tables x.first.now x.count.now x.to.now x.args.now x.heft.now) x.exits.now x.heads.now x.split x.n c.requires.0.are x.out.now _ c.put_places.ensures

@@ -21,11 +21,10 @@ forwarded-requires c =
 
 pub list_out-requires : goal.list_out-requires
 list_out-requires c =
-    let d = c in
-    let s = d.args.input.now in
+    let s = c.args.input.now in
     let r = c.read-r in
     let f = c.forwarded in
-    record { layable = can_lay_out s s true true _ _ r.result r.ensures c.if-v-ne0.false _ _ _ _ f.result f.ensures; text_room_in_bounds = d.requires.text_room_in_bounds }
+    record { layable = can_lay_out s s true true _ _ r.result r.ensures c.if-v-ne0.false _ _ _ _ f.result f.ensures; text_room_in_bounds = c.requires.text_room_in_bounds }
 
 pub returns : goal.returns
 returns c =

@@ -14,9 +14,8 @@ loop-i-init c =
 
 pub mark-requires : goal.mark-requires
 mark-requires c =
-    let s = c in
     let l = c.loop-i in
-    (l.invariant.1.sized, s.requires.2 l.i c.loop-i-test.true)
+    (l.invariant.1.sized, c.requires.2 l.i c.loop-i-test.true)
 
 pub loop-i-preserved-then-has_mate : goal.loop-i-preserved-then-has_mate
 loop-i-preserved-then-has_mate c =

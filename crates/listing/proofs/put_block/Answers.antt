@@ -11,32 +11,27 @@ use Rattle.listing.proofs.put_block.Goals as goal
 
 pub put_number-after_place-requires : goal.put_number-after_place-requires
 put_number-after_place-requires c =
-    let s = c in
-    let x = s.args in
-    omega (arith, s.requires, front_long x.place x.number x.weight)
+    let x = c.args in
+    omega (arith, c.requires, front_long x.place x.number x.weight)
 
 pub put_letter-after_kind-requires : goal.put_letter-after_kind-requires
 put_letter-after_kind-requires c =
-    let s = c in
-    let x = s.args in
-    omega (arith, s.requires, front_long x.place x.number x.weight, number_long x.place space)
+    let x = c.args in
+    omega (arith, c.requires, front_long x.place x.number x.weight, number_long x.place space)
 
 pub put_number-after_number-requires : goal.put_number-after_number-requires
 put_number-after_number-requires c =
-    let s = c in
-    let x = s.args in
-    omega (arith, s.requires, front_long x.place x.number x.weight, number_long x.place space, letter_long (leb numbers x.number) 43 66)
+    let x = c.args in
+    omega (arith, c.requires, front_long x.place x.number x.weight, number_long x.place space, letter_long (leb numbers x.number) 43 66)
 
 pub put_number-requires : goal.put_number-requires
 put_number-requires c =
-    let s = c in
-    let x = s.args in
-    omega (arith, s.requires, front_long x.place x.number x.weight, number_long x.place space, letter_long (leb numbers x.number) 43 66, number_long x.number space)
+    let x = c.args in
+    omega (arith, c.requires, front_long x.place x.number x.weight, number_long x.place space, letter_long (leb numbers x.number) 43 66, number_long x.number space)
 
 pub returns : goal.returns
 returns c =
-    let s = c in
-    let x = s.args in
-    let h : x.at ≤ length x.out.now = omega (arith, s.requires) in
+    let x = c.args in
+    let h : x.at ≤ length x.out.now = omega (arith, c.requires) in
     put_same (front_is x.place x.number x.weight)
     (put_then h (put_then h (put_then h c.put_number-after_place.ensures c.put_letter-after_kind.ensures) c.put_number-after_number.ensures) c.put_number.ensures)

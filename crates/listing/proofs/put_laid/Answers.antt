@@ -12,33 +12,28 @@ use Rattle.listing.proofs.put_laid.Goals as goal
 
 pub put_letter-after_side-requires : goal.put_letter-after_side-requires
 put_letter-after_side-requires c =
-    let s = c in
-    let x = s.args in
-    omega (arith, s.requires, back_long x.marks x.exit x.head x.in_loop)
+    let x = c.args in
+    omega (arith, c.requires, back_long x.marks x.exit x.head x.in_loop)
 
 pub put_letter-after_head-requires : goal.put_letter-after_head-requires
 put_letter-after_head-requires c =
-    let s = c in
-    let x = s.args in
-    omega (arith, s.requires, back_long x.marks x.exit x.head x.in_loop, letter_long c.is_cold.result 67 87)
+    let x = c.args in
+    omega (arith, c.requires, back_long x.marks x.exit x.head x.in_loop, letter_long c.is_cold.result 67 87)
 
 pub put_letter-after_loop-requires : goal.put_letter-after_loop-requires
 put_letter-after_loop-requires c =
-    let s = c in
-    let x = s.args in
-    omega (arith, s.requires, back_long x.marks x.exit x.head x.in_loop, letter_long c.is_cold.result 67 87, letter_long x.head 72 dash)
+    let x = c.args in
+    omega (arith, c.requires, back_long x.marks x.exit x.head x.in_loop, letter_long c.is_cold.result 67 87, letter_long x.head 72 dash)
 
 pub put_number-requires : goal.put_number-requires
 put_number-requires c =
-    let s = c in
-    let x = s.args in
-    omega (arith, s.requires, back_long x.marks x.exit x.head x.in_loop, letter_long c.is_cold.result 67 87, letter_long x.head 72 dash, letter_long x.in_loop 76 dash)
+    let x = c.args in
+    omega (arith, c.requires, back_long x.marks x.exit x.head x.in_loop, letter_long c.is_cold.result 67 87, letter_long x.head 72 dash, letter_long x.in_loop 76 dash)
 
 pub returns : goal.returns
 returns c =
-    let s = c in
-    let x = s.args in
-    let h : x.at ≤ length x.out.now = omega (arith, s.requires) in
+    let x = c.args in
+    let h : x.at ≤ length x.out.now = omega (arith, c.requires) in
     let e = ap (λ (b : Bool). letter b 67 87 ++ (space ∷ [])) c.is_cold.ensures in
     put_same (back_is x.marks x.exit x.head x.in_loop)
     (put_then h (put_then h (put_then h (put_same e c.put_letter-after_side.ensures) c.put_letter-after_head.ensures) c.put_letter-after_loop.ensures) c.put_number.ensures)

@@ -21,10 +21,9 @@ weight_of-requires c = c.requires.printable.weight_sized
 
 pub put_block-next-requires : goal.put_block-next-requires
 put_block-next-requires c =
-    let s = c in
     let l = c.loop-i in
-    let h = s.requires.printable.low l.i c.loop-i-test.true in
-    omega (arith, s.requires.n_in_bounds, s.requires.printable.few, l.invariant.1, line_fits l.i (get_or s.args.listed.now l.i 0) c.weight_of.result 0 0 false false (omega (arith, s.requires.printable.few)) (omega (arith, h)) (omega arith))
+    let h = c.requires.printable.low l.i c.loop-i-test.true in
+    omega (arith, c.requires.n_in_bounds, c.requires.printable.few, l.invariant.1, line_fits l.i (get_or c.args.listed.now l.i 0) c.weight_of.result 0 0 false false (omega (arith, c.requires.printable.few)) (omega (arith, h)) (omega arith))
 
 pub byte_of-requires : goal.byte_of-requires
 byte_of-requires c = c.requires.printable.marks_sized
@@ -40,25 +39,23 @@ byte_of-requires-in-loop-i c = c.requires.printable.exits_sized
 
 pub put_laid-at-requires : goal.put_laid-at-requires
 put_laid-at-requires c =
-    let s = c in
     let l = c.loop-i in
-    let h = s.requires.printable.low l.i c.loop-i-test.true in
-    omega (arith, s.requires.n_in_bounds, s.requires.printable.few, l.invariant.1, c.put_block-next.ensures.ends, line_fits l.i (get_or s.args.listed.now l.i 0) c.weight_of.result c.byte_of.result c.byte_of-in-loop-i.result c.is_marked.result c.is_marked-in-loop-i.result (omega (arith, s.requires.printable.few)) (omega (arith, h)) (omega (arith, c.byte_of-in-loop-i.type_inv)))
+    let h = c.requires.printable.low l.i c.loop-i-test.true in
+    omega (arith, c.requires.n_in_bounds, c.requires.printable.few, l.invariant.1, c.put_block-next.ensures.ends, line_fits l.i (get_or c.args.listed.now l.i 0) c.weight_of.result c.byte_of.result c.byte_of-in-loop-i.result c.is_marked.result c.is_marked-in-loop-i.result (omega (arith, c.requires.printable.few)) (omega (arith, h)) (omega (arith, c.byte_of-in-loop-i.type_inv)))
 
 pub loop-i-preserved : goal.loop-i-preserved
 unfolding line_at lines_to
 loop-i-preserved c =
-    let s = c in
-    let x = s.args in
+    let x = c.args in
     let l = c.loop-i in
-    let h = s.requires.printable.low l.i c.loop-i-test.true in
+    let h = c.requires.printable.low l.i c.loop-i-test.true in
     let t = shown x.listed.now x.marks.now x.weight.now x.exits.now x.heads.now x.loops.now in
     let front = c.put_block-next.ensures in
     let back = c.put_laid-at.ensures in
-    let fits = line_fits l.i (get_or s.args.listed.now l.i 0) c.weight_of.result c.byte_of.result c.byte_of-in-loop-i.result c.is_marked.result c.is_marked-in-loop-i.result (omega (arith, s.requires.printable.few)) (omega (arith, h)) (omega (arith, c.byte_of-in-loop-i.type_inv)) in
+    let fits = line_fits l.i (get_or c.args.listed.now l.i 0) c.weight_of.result c.byte_of.result c.byte_of-in-loop-i.result c.is_marked.result c.is_marked-in-loop-i.result (omega (arith, c.requires.printable.few)) (omega (arith, h)) (omega (arith, c.byte_of-in-loop-i.type_inv)) in
     let e : front_of l.i (get_or x.listed.now l.i 0) c.weight_of.result ++ back_of c.byte_of.result c.is_marked.result c.is_marked-in-loop-i.result c.byte_of-in-loop-i.result ≡ line_at t l.i =
     rw (c.weight_of.ensures, c.byte_of.ensures, c.is_marked.ensures, c.is_marked-in-loop-i.ensures, c.byte_of-in-loop-i.ensures) in
-    let p : l.at ≤ length l.out = omega (arith, s.requires.n_in_bounds, l.invariant.1) in (
+    let p : l.at ≤ length l.out = omega (arith, c.requires.n_in_bounds, l.invariant.1) in (
       omega (arith, c.loop-i-test.true),
       omega (arith, l.invariant.1, front.ends, back.ends, fits),
       omega (arith, c.put_laid-at.auto.out, c.put_block-next.auto.out, l.invariant.2),

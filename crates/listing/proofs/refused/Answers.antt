@@ -9,15 +9,14 @@ use Rattle.listing.proofs.LineLaws.{number_long, refusal_is}
 use Rattle.listing.proofs.refused.Goals as goal
 
 pub put_number-after_number-requires : goal.put_number-after_number-requires
-put_number-after_number-requires c = let s = c in omega (arith, s.requires, decimal_fits s.args.number)
+put_number-after_number-requires c = omega (arith, c.requires, decimal_fits c.args.number)
 
 pub put_word-after_at-requires : goal.put_word-after_at-requires
-put_word-after_at-requires c = let s = c in omega (arith, s.requires, decimal_fits s.args.number, number_long s.args.number space)
+put_word-after_at-requires c = omega (arith, c.requires, decimal_fits c.args.number, number_long c.args.number space)
 
 pub put_number-requires : goal.put_number-requires
 put_number-requires c =
-    let s = c in
-    omega (arith, s.requires, decimal_fits s.args.number, number_long s.args.number space, decimal_fits s.args.place)
+    omega (arith, c.requires, decimal_fits c.args.number, number_long c.args.number space, decimal_fits c.args.place)
 
 pub returns : goal.returns
 returns c =

@@ -9,13 +9,12 @@ use Rattle.listing.proofs.ListingLaws.{prints}
 use Rattle.listing.proofs.write.Goals as goal
 
 pub put_places-at-requires : goal.put_places-at-requires
-put_places-at-requires c = let s = c in record { printable = s.requires.printable; n_in_bounds = omega (arith, s.requires.text_room_in_bounds, s.requires.printable.few) }
+put_places-at-requires c = record { printable = c.requires.printable; n_in_bounds = omega (arith, c.requires.text_room_in_bounds, c.requires.printable.few) }
 
 pub put_split-requires : goal.put_split-requires
 put_split-requires c =
-    let s = c in
     let p = c.put_places-at in
-    omega (arith, s.requires.text_room_in_bounds, s.requires.printable.few, p.ensures.upper_bound, split_fits s.args.split)
+    omega (arith, c.requires.text_room_in_bounds, c.requires.printable.few, p.ensures.upper_bound, split_fits c.args.split)
 
 pub returns : goal.returns
 returns c =

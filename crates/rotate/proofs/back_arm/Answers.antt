@@ -20,8 +20,7 @@ returns-then-c-eq0 c =
 
 pub loop-i-init : goal.loop-i-init
 loop-i-init c =
-    let d = c in
-    let n : c.entry_of-f.result + c.entry_of-c.result ≤ arms = omega (arith, c.entry_of-f.ensures, c.entry_of-c.ensures, d.requires) in
+    let n : c.entry_of-f.result + c.entry_of-c.result ≤ arms = omega (arith, c.entry_of-f.ensures, c.entry_of-c.ensures, c.requires) in
     (omega arith, n, omega arith, λ to args. refl)
 
 pub loop-i-preserved : goal.loop-i-preserved

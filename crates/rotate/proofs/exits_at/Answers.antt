@@ -12,10 +12,9 @@ use Rattle.rotate.proofs.exits_at.Goals as goal
 
 pub loop-i-init : goal.loop-i-init
 loop-i-init c =
-    let d = c in
-    let x = d.args in (
+    let x = c.args in (
       search rules,
-      omega (arith, c.entry_of-f.ensures, c.entry_of-c.ensures, d.requires.fits x.n),
+      omega (arith, c.entry_of-f.ensures, c.entry_of-c.ensures, c.requires.fits x.n),
       λ args.
           exit_start (arm_tables x.first.now x.count.now x.to.now args x.heft.now) (liked x.seen.now x.starts.now) (member x.inside.now) x.index (way_of x.so) _ _,
     )

@@ -13,15 +13,13 @@ returns-then-wide-entry c = rw (ne_eqb _ _ c.if-x-last.false, eq-eqb _ _ (sym c.
 
 pub returns-then-over_four_fifths : goal.returns-then-over_four_fifths
 returns-then-over_four_fifths c =
-    let d = c in
-    let x = d.args in
+    let x = c.args in
     let w = c.over_four_fifths.ensures ∙ ap (over_four_fifths x.arm) c.weight_of.ensures in
-    rw (ne_eqb _ _ d.if-x-last.false, ne_eqb _ _ (λ z. c.if-wide-entry.false (c.wide.ensures ∙ z)), sym w ∙ c.if-over_four_fifths.true)
+    rw (ne_eqb _ _ c.if-x-last.false, ne_eqb _ _ (λ z. c.if-wide-entry.false (c.wide.ensures ∙ z)), sym w ∙ c.if-over_four_fifths.true)
     (ap not c.walks.ensures)
 
 pub returns : goal.returns
 returns c =
-    let d = c in
-    let x = d.args in
+    let x = c.args in
     let w = c.over_four_fifths.ensures ∙ ap (over_four_fifths x.arm) c.weight_of.ensures in
-    rw (ne_eqb _ _ d.if-x-last.false, ne_eqb _ _ (λ z. c.if-wide-entry.false (c.wide.ensures ∙ z)), sym w ∙ c.if-over_four_fifths.false) refl
+    rw (ne_eqb _ _ c.if-x-last.false, ne_eqb _ _ (λ z. c.if-wide-entry.false (c.wide.ensures ∙ z)), sym w ∙ c.if-over_four_fifths.false) refl

@@ -7,27 +7,21 @@ use Rattle.seeds.proofs.below.Goals as goal
 
 pub returns-then-cold-other : goal.returns-then-cold-other
 returns-then-cold-other c =
-    let s = c in
-    let a = s.args in
-    below_cold a.marks.now a.weight.now a.reached.now a.x a.y _ _ (c.is_cold-cold.ensures ∙ ap is_cold s.byte_of.ensures)
+    let a = c.args in
+    below_cold a.marks.now a.weight.now a.reached.now a.x a.y _ _ (c.is_cold-cold.ensures ∙ ap is_cold c.byte_of.ensures)
     (c.is_cold-other.ensures ∙ ap is_cold c.byte_of-2.ensures) (not-true _ c.if-cold-other.true)
 
 pub returns-then-a-b : goal.returns-then-a-b
 returns-then-a-b c =
-    let d = c in
-    let s = d in
-    let a = s.args in
-    below_reached a.marks.now a.weight.now a.reached.now a.x a.y _ _ (d.is_cold-cold.ensures ∙ ap is_cold s.byte_of.ensures)
-    (d.is_cold-other.ensures ∙ ap is_cold d.byte_of-2.ensures) (not-false _ d.if-cold-other.false) _ _ c.weight_of-a.ensures c.weight_of-b.ensures
+    let a = c.args in
+    below_reached a.marks.now a.weight.now a.reached.now a.x a.y _ _ (c.is_cold-cold.ensures ∙ ap is_cold c.byte_of.ensures)
+    (c.is_cold-other.ensures ∙ ap is_cold c.byte_of-2.ensures) (not-false _ c.if-cold-other.false) _ _ c.weight_of-a.ensures c.weight_of-b.ensures
     c.if-a-b.true
 
 pub returns : goal.returns
 returns c =
-    let e = c in
-    let d = e in
-    let s = d in
-    let a = s.args in
+    let a = c.args in
     rw (c.weight_of.ensures, c.weight_of-2.ensures)
-    (below_weight a.marks.now a.weight.now a.reached.now a.x a.y _ _ (d.is_cold-cold.ensures ∙ ap is_cold s.byte_of.ensures)
-    (d.is_cold-other.ensures ∙ ap is_cold d.byte_of-2.ensures) (not-false _ d.if-cold-other.false) _ _ e.weight_of-a.ensures e.weight_of-b.ensures
-    e.if-a-b.false)
+    (below_weight a.marks.now a.weight.now a.reached.now a.x a.y _ _ (c.is_cold-cold.ensures ∙ ap is_cold c.byte_of.ensures)
+    (c.is_cold-other.ensures ∙ ap is_cold c.byte_of-2.ensures) (not-false _ c.if-cold-other.false) _ _ c.weight_of-a.ensures c.weight_of-b.ensures
+    c.if-a-b.false)

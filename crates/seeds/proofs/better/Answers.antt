@@ -11,12 +11,10 @@ returns-in_default c =
 
 pub returns-then-below : goal.returns-then-below
 returns-then-below c =
-    let s = c in
-    let a = s.args in
-    later_one (seed_by a.marks.now a.weight.now a.reached.now) a.best a.n _ s.in-At.is (sym c.if-below.true ∙ c.below.ensures)
+    let a = c.args in
+    later_one (seed_by a.marks.now a.weight.now a.reached.now) a.best a.n _ c.in-At.is (sym c.if-below.true ∙ c.below.ensures)
 
 pub returns : goal.returns
 returns c =
-    let s = c in
-    let a = s.args in
-    former_one (seed_by a.marks.now a.weight.now a.reached.now) a.best a.n _ s.in-At.is (sym c.if-below.false ∙ c.below.ensures)
+    let a = c.args in
+    former_one (seed_by a.marks.now a.weight.now a.reached.now) a.best a.n _ c.in-At.is (sym c.if-below.false ∙ c.below.ensures)

@@ -11,34 +11,28 @@ overflow_add-end c = omega (arith, c.entry_of-f.ensures, c.entry_of.ensures, c.r
 
 pub loop-q-init : goal.loop-q-init
 loop-q-init c =
-    let s = c in
-    (omega arith, omega arith, omega (arith, c.entry_of-f.ensures, c.entry_of.ensures, s.requires.0.fits), s.requires.1, refl)
+    (omega arith, omega arith, omega (arith, c.entry_of-f.ensures, c.entry_of.ensures, c.requires.0.fits), c.requires.1, refl)
 
 pub raise-requires : goal.raise-requires
 raise-requires c =
-    let l = c in
-    let s = l in
-    let v = l.loop-q.invariant in
-    (v.3, goes_in s.requires.0 _ _ l.entry_of-f.ensures l.entry_of.ensures l.loop-q.q v.0 c.loop-q-test.true)
+    let v = c.loop-q.invariant in
+    (v.3, goes_in c.requires.0 _ _ c.entry_of-f.ensures c.entry_of.ensures c.loop-q.q v.0 c.loop-q-test.true)
 
 pub loop-q-preserved : goal.loop-q-preserved
 unfolding raised
 loop-q-preserved c =
-    let l = c in
-    let a = l.args in
-    let v = l.loop-q.invariant in
+    let a = c.args in
+    let v = c.loop-q.invariant in
     let lt = c.loop-q-test.true in (
       omega (arith, v.0),
       omega (arith, lt),
       v.2,
-      ap length c.raise.ensures ∙ raised_length a.to.now a.heft.now l.loop-q.q l.loop-q.reached ∙ v.3,
-      noted_next a.to.now a.heft.now l.loop-q.q _ l.loop-q.reached _ lt c.raise.ensures ∙ v.4,
+      ap length c.raise.ensures ∙ raised_length a.to.now a.heft.now c.loop-q.q c.loop-q.reached ∙ v.3,
+      noted_next a.to.now a.heft.now c.loop-q.q _ c.loop-q.reached _ lt c.raise.ensures ∙ v.4,
     )
 
 pub returns : goal.returns
 returns c =
-    let l = c in
-    let s = l in
-    let a = s.args in
-    let v = l.loop-q.invariant in record { reached_len = v.3; noted = noted_all s.requires.0 _ _ l.entry_of-f.ensures l.entry_of.ensures a.reached.now l.loop-q.reached s.requires.1
-          (sym (noted_end a.to.now a.heft.now l.loop-q.q _ l.loop-q.reached c.loop-q-test.false) ∙ v.4) }
+    let a = c.args in
+    let v = c.loop-q.invariant in record { reached_len = v.3; noted = noted_all c.requires.0 _ _ c.entry_of-f.ensures c.entry_of.ensures a.reached.now c.loop-q.reached c.requires.1
+          (sym (noted_end a.to.now a.heft.now c.loop-q.q _ c.loop-q.reached c.loop-q-test.false) ∙ v.4) }

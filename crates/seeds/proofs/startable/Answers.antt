@@ -9,6 +9,5 @@ returns-then-is_marked c = let a = c.args in startable_not a.weight.now a.seen.n
 
 pub returns : goal.returns
 returns c =
-    let s = c in
-    let a = s.args in
-    ap (leb _) c.weight_of.ensures ∙ startable_if a.weight.now a.seen.now a.low a.n (sym c.if-is_marked.false ∙ s.is_marked.ensures)
+    let a = c.args in
+    ap (leb _) c.weight_of.ensures ∙ startable_if a.weight.now a.seen.now a.low a.n (sym c.if-is_marked.false ∙ c.is_marked.ensures)

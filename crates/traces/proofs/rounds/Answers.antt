@@ -16,9 +16,8 @@ floor-low-requires c = omega (arith, c.nth_round-r.ensures.1, (round_small c.loo
 
 pub fill-k-requires : goal.fill-k-requires
 fill-k-requires c =
-    let d = c in
-    let x = d.args in
-    let l = c.loop-i in record { fills = turns_fills x.marks.now x.weight.now x.first.now x.count.now x.to.now x.heft.now x.entry x.entered (take x.n x.plain.now) x.seen.now x.starts.now x.reached.now x.order.now x.ends.now x.found l.seen l.starts l.reached l.order l.ends l.k l.i l.invariant.2 d.requires.turns; roomy = (l.invariant.1, omega (arith, c.nth_round-r.ensures.0, (round_small l.i).0), d.requires.roomy.1, d.requires.roomy.2) }
+    let x = c.args in
+    let l = c.loop-i in record { fills = turns_fills x.marks.now x.weight.now x.first.now x.count.now x.to.now x.heft.now x.entry x.entered (take x.n x.plain.now) x.seen.now x.starts.now x.reached.now x.order.now x.ends.now x.found l.seen l.starts l.reached l.order l.ends l.k l.i l.invariant.2 c.requires.turns; roomy = (l.invariant.1, omega (arith, c.nth_round-r.ensures.0, (round_small l.i).0), c.requires.roomy.1, c.requires.roomy.2) }
 
 pub loop-i-smaller : goal.loop-i-smaller
 loop-i-smaller c =
@@ -26,8 +25,7 @@ loop-i-smaller c =
 
 pub loop-i-preserved : goal.loop-i-preserved
 loop-i-preserved c =
-    let d = c in
-    let x = d.args in
+    let x = c.args in
     let l = c.loop-i in
     let h : l.i < length rounds = omega (arith, c.loop-i-test.true, rounds_long) in (
       omega (arith, h),
@@ -37,7 +35,6 @@ loop-i-preserved c =
 
 pub returns : goal.returns
 returns c =
-    let d = c in
-    let x = d.args in
+    let x = c.args in
     let l = c.loop-i in
     record { roomy_2 = l.invariant.1; rounded = done_all x.marks.now x.weight.now x.first.now x.count.now x.to.now x.heft.now x.entry x.entered (take x.n x.plain.now) x.seen.now x.starts.now x.reached.now x.order.now x.ends.now x.found l.seen l.starts l.reached l.order l.ends l.k l.i l.invariant.2 (omega (arith, l.invariant.0, c.loop-i-test.false, rounds_long)) }

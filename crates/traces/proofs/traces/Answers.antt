@@ -15,19 +15,17 @@ order-plain-requires c =
 
 pub find-entry-requires : goal.find-entry-requires
 find-entry-requires c =
-    let d = c in
-    let x = d.args in
-    let l = orderable x.listed.now x.marks.now x.weight.now x.first.now x.count.now x.to.now x.heft.now x.n d.requires in
+    let x = c.args in
+    let l = orderable x.listed.now x.marks.now x.weight.now x.first.now x.count.now x.to.now x.heft.now x.n c.requires in
     (omega (arith, lent_few l.lent), lent_sized l.lent, marks_sized l)
 
 pub find-found-requires : goal.find-found-requires
 find-found-requires c =
-    let d = c in
-    let x = d.args in
+    let x = c.args in
     let o = c.order-plain in
     let e = c.find-entry in
     let m = c.none-seen in
-    let s = c.none-starts in record { finds = findable x.listed.now x.marks.now x.weight.now x.first.now x.count.now x.to.now x.heft.now x.n o.result o.ensures e.result e.ensures m.result s.result (replicate blocks 0) (replicate blocks 0) m.ensures.1 s.ensures.1 d.requires; roomy = (
+    let s = c.none-starts in record { finds = findable x.listed.now x.marks.now x.weight.now x.first.now x.count.now x.to.now x.heft.now x.n o.result o.ensures e.result e.ensures m.result s.result (replicate blocks 0) (replicate blocks 0) m.ensures.1 s.ensures.1 c.requires; roomy = (
         record {
           seen_sized = m.ensures.0;
           starts_sized = s.ensures.0;
@@ -36,18 +34,17 @@ find-found-requires c =
           ends_sized = search rules;
         },
         search rules,
-        omega (arith, plain_few x.listed.now x.marks.now x.weight.now x.first.now x.count.now x.to.now x.heft.now x.n o.result o.ensures e.result e.ensures d.requires),
+        omega (arith, plain_few x.listed.now x.marks.now x.weight.now x.first.now x.count.now x.to.now x.heft.now x.n o.result o.ensures e.result e.ensures c.requires),
       ) }
 
 pub connect-requires : goal.connect-requires
 connect-requires c =
-    let d = c in
-    let x = d.args in
+    let x = c.args in
     let o = c.order-plain in
     let e = c.find-entry in
     let m = c.none-seen in
     let s = c.none-starts in
-    let w = sized d.requires.over.flows in (
+    let w = sized c.requires.over.flows in (
       record {
         marks_sized = w.marks_sized;
         first_sized = w.first_sized;
@@ -56,13 +53,12 @@ connect-requires c =
         heft_sized = w.heft_sized;
         fits = w.fits;
       },
-      joinable x.listed.now x.marks.now x.weight.now x.first.now x.count.now x.to.now x.heft.now x.n o.result o.ensures e.result e.ensures m.result s.result (replicate blocks 0) (replicate blocks 0) m.ensures.1 s.ensures.1 _ _ _ _ _ _ c.find-found.ensures.found c.find-found.ensures.roomy_2 d.requires,
+      joinable x.listed.now x.marks.now x.weight.now x.first.now x.count.now x.to.now x.heft.now x.n o.result o.ensures e.result e.ensures m.result s.result (replicate blocks 0) (replicate blocks 0) m.ensures.1 s.ensures.1 _ _ _ _ _ _ c.find-found.ensures.found c.find-found.ensures.roomy_2 c.requires,
     )
 
 pub returns : goal.returns
 returns c =
-    let d = c in
-    let x = d.args in
+    let x = c.args in
     let o = c.order-plain in
     let e = c.find-entry in
     let m = c.none-seen in

@@ -12,11 +12,10 @@ find-from-requires c =
 
 pub reach-at-requires : goal.reach-at-requires
 reach-at-requires c =
-    let s = c in
-    let x = s.args in
+    let x = c.args in
     let f = c.find-from in
     let none = c.none-seen.ensures in
-    record { enters = lent_enters x.listed.now x.first.now x.count.now x.to.now x.n x.marks.now f.result f.ensures s.requires; seen_len = (none.0, search rules, none.1) }
+    record { enters = lent_enters x.listed.now x.first.now x.count.now x.to.now x.n x.marks.now f.result f.ensures c.requires; seen_len = (none.0, search rules, none.1) }
 
 pub reversed-o-requires : goal.reversed-o-requires
 reversed-o-requires c =
@@ -25,13 +24,12 @@ reversed-o-requires c =
 
 pub unreached-requires : goal.unreached-requires
 unreached-requires c =
-    let s = c in
-    let x = s.args in
+    let x = c.args in
     let f = c.find-from in
     let r = c.reach-at in
     let o = c.reversed-o in
-    let few = lent_few s.requires.lent in
-    let long = lent_long x.listed.now x.first.now x.count.now x.to.now x.n x.marks.now f.result f.ensures _ _ r.result r.ensures.reaches s.requires in record { seen_len = (r.ensures.counts.seen_sized, lent_sized s.requires.lent, omega (arith, few)); listed_bound = omega (arith, long, o.ensures.1, few) }
+    let few = lent_few c.requires.lent in
+    let long = lent_long x.listed.now x.first.now x.count.now x.to.now x.n x.marks.now f.result f.ensures _ _ r.result r.ensures.reaches c.requires in record { seen_len = (r.ensures.counts.seen_sized, lent_sized c.requires.lent, omega (arith, few)); listed_bound = omega (arith, long, o.ensures.1, few) }
 
 pub returns : goal.returns
 returns c =

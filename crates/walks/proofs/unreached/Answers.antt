@@ -13,56 +13,48 @@ use Rattle.walks.proofs.unreached.Goals as goal
 pub loop-i-init : goal.loop-i-init
 loop-i-init c = (search rules, behind_start _ _ _ _ (search rules))
 
-pub is_marked-requires : goal.is_marked-requires
-is_marked-requires c = search rules
-
 pub loop-i-preserved-then-is_marked : goal.loop-i-preserved-then-is_marked
 loop-i-preserved-then-is_marked c =
-    let s = c in
-    let x = s.args in
+    let x = c.args in
     let l = c.loop-i in
-    let h : l.i < length x.listed.now = omega (arith, c.loop-i-test.true, s.requires.seen_len) in
+    let h : l.i < length x.listed.now = omega (arith, c.loop-i-test.true, c.requires.seen_len) in
     let e = ap not (sym c.is_marked.ensures ∙ c.if-is_marked.true) in
     (search rules, behind_no (unmarked x.seen.now) x.listed.now x.o.block x.o.len l.o.block l.o.len l.i l.invariant.1 h e)
 
 pub offset_bounds-o-at : goal.offset_bounds-o-at
 offset_bounds-o-at c =
-    let s = c in
-    let x = s.args in
+    let x = c.args in
     let l = c.loop-i in
-    let h : l.i < length x.listed.now = omega (arith, c.loop-i-test.true, s.requires.seen_len) in
+    let h : l.i < length x.listed.now = omega (arith, c.loop-i-test.true, c.requires.seen_len) in
     let e = ap not (sym c.is_marked.ensures ∙ c.if-is_marked.false) in
-    let room = behind_room (unmarked x.seen.now) x.listed.now x.o.block x.o.len l.o.block l.o.len l.i l.invariant.1 h x.n c.loop-i-test.true s.requires.listed_bound e in
+    let room = behind_room (unmarked x.seen.now) x.listed.now x.o.block x.o.len l.o.block l.o.len l.i l.invariant.1 h x.n c.loop-i-test.true c.requires.listed_bound e in
     omega (arith, room)
 
 pub bounds-o-at : goal.bounds-o-at
 bounds-o-at c =
-    let s = c in
-    let x = s.args in
+    let x = c.args in
     let l = c.loop-i in
-    let h : l.i < length x.listed.now = omega (arith, c.loop-i-test.true, s.requires.seen_len) in
+    let h : l.i < length x.listed.now = omega (arith, c.loop-i-test.true, c.requires.seen_len) in
     let e = ap not (sym c.is_marked.ensures ∙ c.if-is_marked.false) in
-    let room = behind_room (unmarked x.seen.now) x.listed.now x.o.block x.o.len l.o.block l.o.len l.i l.invariant.1 h x.n c.loop-i-test.true s.requires.listed_bound e in
+    let room = behind_room (unmarked x.seen.now) x.listed.now x.o.block x.o.len l.o.block l.o.len l.i l.invariant.1 h x.n c.loop-i-test.true c.requires.listed_bound e in
     omega (arith, room)
 
 pub overflow_add-o : goal.overflow_add-o
 overflow_add-o c =
-    let s = c in
-    let x = s.args in
+    let x = c.args in
     let l = c.loop-i in
-    let h : l.i < length x.listed.now = omega (arith, c.loop-i-test.true, s.requires.seen_len) in
+    let h : l.i < length x.listed.now = omega (arith, c.loop-i-test.true, c.requires.seen_len) in
     let e = ap not (sym c.is_marked.ensures ∙ c.if-is_marked.false) in
-    let room = behind_room (unmarked x.seen.now) x.listed.now x.o.block x.o.len l.o.block l.o.len l.i l.invariant.1 h x.n c.loop-i-test.true s.requires.listed_bound e in
+    let room = behind_room (unmarked x.seen.now) x.listed.now x.o.block x.o.len l.o.block l.o.len l.i l.invariant.1 h x.n c.loop-i-test.true c.requires.listed_bound e in
     omega (arith, room)
 
 pub loop-i-preserved : goal.loop-i-preserved
 loop-i-preserved c =
-    let s = c in
-    let x = s.args in
+    let x = c.args in
     let l = c.loop-i in
-    let h : l.i < length x.listed.now = omega (arith, c.loop-i-test.true, s.requires.seen_len) in
+    let h : l.i < length x.listed.now = omega (arith, c.loop-i-test.true, c.requires.seen_len) in
     let e = ap not (sym c.is_marked.ensures ∙ c.if-is_marked.false) in
-    let room = behind_room (unmarked x.seen.now) x.listed.now x.o.block x.o.len l.o.block l.o.len l.i l.invariant.1 h x.n c.loop-i-test.true s.requires.listed_bound e in
+    let room = behind_room (unmarked x.seen.now) x.listed.now x.o.block x.o.len l.o.block l.o.len l.i l.invariant.1 h x.n c.loop-i-test.true c.requires.listed_bound e in
     (search rules, behind_yes (unmarked x.seen.now) x.listed.now x.o.block x.o.len l.o.block l.o.len l.i l.invariant.1 h room e)
 
 pub returns : goal.returns

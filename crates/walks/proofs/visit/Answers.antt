@@ -16,33 +16,27 @@ is_marked-requires c = c.requires.counts.seen_sized
 
 pub returns-then-is_marked : goal.returns-then-is_marked
 returns-then-is_marked c =
-    let s = c in
-    let x = s.args in record { counts_2 = s.requires.counts; visits = visit_marked x.first.now x.count.now x.to.now x.root x.seen.now x.done.now x.finished (sym c.is_marked.ensures ∙ c.if-is_marked.true) }
+    let x = c.args in record { counts_2 = c.requires.counts; visits = visit_marked x.first.now x.count.now x.to.now x.root x.seen.now x.done.now x.finished (sym c.is_marked.ensures ∙ c.if-is_marked.true) }
 
 pub mark-requires : goal.mark-requires
-mark-requires c = let s = c in (s.requires.counts.seen_sized, begins_low _ _ _ _ s.requires.begins)
-
-pub put-n-requires : goal.put-n-requires
-put-n-requires c = search rules
+mark-requires c = (c.requires.counts.seen_sized, begins_low _ _ _ _ c.requires.begins)
 
 pub walk-requires : goal.walk-requires
 walk-requires c =
-    let s = c in
-    let x = s.args in
+    let x = c.args in
     let m = c.mark in
     let p = c.put-n in
     let top = p.ensures.holds ∙ ap (λ (st : List Frame). frame x.root 0 ∷ st) (frames_none _ _ 0 (omega arith)) in
-    let new = sym c.is_marked.ensures ∙ c.if-is_marked.false in record { started = subst (Started x.first.now x.count.now x.to.now) (sym top) (begins_started _ _ _ _ s.requires.begins); seen_len = (
+    let new = sym c.is_marked.ensures ∙ c.if-is_marked.false in record { started = subst (Started x.first.now x.count.now x.to.now) (sym top) (begins_started _ _ _ _ c.requires.begins); seen_len = (
         m.ensures.0,
-        s.requires.counts.done_sized,
-        omega (arith, p.ensures.more, s.requires.counts.counted, size_more x.seen.now _ x.root (begins_low _ _ _ _ s.requires.begins) new m.ensures.1),
+        c.requires.counts.done_sized,
+        omega (arith, p.ensures.more, c.requires.counts.counted, size_more x.seen.now _ x.root (begins_low _ _ _ _ c.requires.begins) new m.ensures.1),
         p.ensures.roomy,
       ) }
 
 pub returns : goal.returns
 returns c =
-    let s = c in
-    let x = s.args in
+    let x = c.args in
     let m = c.mark in
     let p = c.put-n in
     let top = p.ensures.holds ∙ ap (λ (st : List Frame). frame x.root 0 ∷ st) (frames_none _ _ 0 (omega arith)) in

@@ -17,18 +17,16 @@ loop-i-init c =
 
 pub visit-at-requires : goal.visit-at-requires
 visit-at-requires c =
-    let s = c in
-    let x = s.args in
+    let x = c.args in
     let l = c.loop-i in
-    record { begins = root_begins x.first.now x.count.now x.to.now x.listed.now x.n l.i c.loop-i-test.true s.requires.n_le_blocks.2; counts = l.invariant.1 }
+    record { begins = root_begins x.first.now x.count.now x.to.now x.listed.now x.n l.i c.loop-i-test.true c.requires.n_le_blocks.2; counts = l.invariant.1 }
 
 pub loop-i-preserved : goal.loop-i-preserved
 loop-i-preserved c =
-    let s = c in
-    let x = s.args in
+    let x = c.args in
     let l = c.loop-i in
     let h = c.loop-i-test.true in
-    let k : l.i < length x.listed.now = omega (arith, h, s.requires.n_le_blocks) in (
+    let k : l.i < length x.listed.now = omega (arith, h, c.requires.n_le_blocks) in (
       omega (arith, h),
       c.visit-at.ensures.counts_2,
       all_more x.first.now x.count.now x.to.now x.listed.now x.n l.seen l.done _ _ l.at _ l.i h k l.invariant.2 c.visit-at.ensures.visits,

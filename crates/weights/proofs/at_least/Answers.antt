@@ -7,16 +7,16 @@ pub returns-then-whole-eq0 : goal.returns-then-whole-eq0
 returns-then-whole-eq0 c = rw c.if-whole-eq0.true (none_is c.args.w c.args.likely)
 
 pub overflow_mul-result : goal.overflow_mul-result
-overflow_mul-result c = let s = c in omega (arith, quotient s.args.whole s.args.likely s.requires)
+overflow_mul-result c = omega (arith, quotient c.args.whole c.args.likely c.requires)
 
 pub overflow_mul-result-2 : goal.overflow_mul-result-2
-overflow_mul-result-2 c = let s = c in omega (arith, remainder s.args.whole s.args.likely s.requires)
+overflow_mul-result-2 c = omega (arith, remainder c.args.whole c.args.likely c.requires)
 
 pub overflow_add-result : goal.overflow_add-result
-overflow_add-result c = let s = c in omega (arith, remainder s.args.whole s.args.likely s.requires)
+overflow_add-result c = omega (arith, remainder c.args.whole c.args.likely c.requires)
 
 pub overflow_add-result-2 : goal.overflow_add-result-2
-overflow_add-result-2 c = let s = c in omega (arith, quotient s.args.whole s.args.likely s.requires, remainder s.args.whole s.args.likely s.requires)
+overflow_add-result-2 c = omega (arith, quotient c.args.whole c.args.likely c.requires, remainder c.args.whole c.args.likely c.requires)
 
 pub returns : goal.returns
-returns c = let s = c in share_is s.args.whole s.args.likely s.requires s.args.w c.if-whole-eq0.false
+returns c = share_is c.args.whole c.args.likely c.requires c.args.w c.if-whole-eq0.false

@@ -14,7 +14,7 @@ pub part_of-part-requires : goal.part_of-part-requires
 part_of-part-requires c = let h = c.if-whole-eq0.false in mod-lt c.args.w (omega (arith, h))
 
 pub returns-then-base-part : goal.returns-then-base-part
-returns-then-base-part c = let s = c in omega (arith, share_parts s.args.w s.args.whole s.if-whole-eq0.false, c.part_of-part.ensures)
+returns-then-base-part c = omega (arith, share_parts c.args.w c.args.whole c.if-whole-eq0.false, c.part_of-part.ensures)
 
 pub returns : goal.returns
-returns c = let s = c in omega (arith, share_parts s.args.w s.args.whole s.if-whole-eq0.false, c.part_of-part.ensures)
+returns c = omega (arith, share_parts c.args.w c.args.whole c.if-whole-eq0.false, c.part_of-part.ensures)

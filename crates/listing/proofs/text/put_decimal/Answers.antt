@@ -9,17 +9,15 @@ use Rattle.listing.proofs.text.put_decimal.Goals as goal
 pub loop-i-init : goal.loop-i-init
 unfolding tens
 loop-i-init c =
-    let s = c in
-    let x = s.args in
-    fill_start x.out.now x.at _ x.n (ap (λ (k : ℕ). x.at + k) c.width.ensures) (omega (arith, s.ranges.n))
+    let x = c.args in
+    fill_start x.out.now x.at _ x.n (ap (λ (k : ℕ). x.at + k) c.width.ensures) (omega (arith, c.ranges.n))
 
 pub loop-i-preserved : goal.loop-i-preserved
 loop-i-preserved c =
     let l = c.loop-i in
-    let s = c in
-    let x = s.args in
+    let x = c.args in
     let w = c.width.ensures in
-    fill_step x.out.now x.at _ x.n (ap (λ (k : ℕ). x.at + k) w) l.out l.i l.rest _ (omega (arith, s.requires, w)) c.loop-i-test.true refl l.invariant
+    fill_step x.out.now x.at _ x.n (ap (λ (k : ℕ). x.at + k) w) l.out l.i l.rest _ (omega (arith, c.requires, w)) c.loop-i-test.true refl l.invariant
 
 pub shape_of-out : goal.shape_of-out
 shape_of-out c = c.loop-i.invariant.long

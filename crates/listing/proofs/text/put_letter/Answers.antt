@@ -13,8 +13,7 @@ use Rattle.listing.proofs.text.put_letter.Goals.{then-c, else-c}
 pub returns : goal.returns
 unfolding letter
 returns c =
-    let s = c in
     let v = c.if-c in
-    let x = s.args in
+    let x = c.args in
     let e : v.put_byte ≡ cond x.c x.x x.y = elim v.branch [ then-c w ↦ rw w.if-c.true w.put_byte-is | else-c w ↦ rw w.if-c.false w.put_byte-is ] in
-    put_same (ap (λ (b : ℕ). b ∷ space ∷ []) e) (put_then (omega (arith, s.requires)) c.put_byte-next.ensures c.put_byte.ensures)
+    put_same (ap (λ (b : ℕ). b ∷ space ∷ []) e) (put_then (omega (arith, c.requires)) c.put_byte-next.ensures c.put_byte.ensures)

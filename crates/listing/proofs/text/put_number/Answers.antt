@@ -5,5 +5,4 @@ use Rattle.listing.proofs.text.put_number.Goals as goal
 
 pub returns : goal.returns
 returns c =
-    let s = c in
-    put_then (omega (arith, s.requires)) c.put_decimal-next.ensures c.put_byte.ensures
+    put_then (omega (arith, c.requires)) c.put_decimal-next.ensures c.put_byte.ensures

@@ -1,5 +1,5 @@
 -- `records::entry::find` meets its contract: while it runs, no block before has the mark.
-use Prim.Native.Nat.{ℕ, suc, ◌-◌}
+use Prim.Native.Nat.{ℕ, suc}
 use native.Mathlib.Numerals.{add-one}
 use native.Mathlib.Omega.{arith}
 use mathlib.Core.Path.{◌≡◌, refl, sym, ap, ◌∙◌, subst}
@@ -20,13 +20,12 @@ byte_of-requires c = c.requires.2
 
 pub returns-then-is_entry : goal.returns-then-is_entry
 returns-then-is_entry c =
-    let d = c in
-    let l = d.loop-i in
-    let x = d.args in
+    let l = c.loop-i in
+    let x = c.args in
     let b = only_blocks x.listed.now x.marks.now [] [] in
-    let e = sym (d.is_entry.ensures ∙ ap is_entry d.byte_of.ensures) ∙ d.if-is_entry.true in
+    let e = sym (c.is_entry.ensures ∙ ap is_entry c.byte_of.ensures) ∙ c.if-is_entry.true in
     ap optional c.wide.ensures
-    ∙ optional_some _ (omega (arith, entry_small x.marks.now _ e, d.requires.2))
+    ∙ optional_some _ (omega (arith, entry_small x.marks.now _ e, c.requires.2))
     ∙ sym (entry_stays b no_arms (suc l.i) x.n _ (omega arith) (entry_some b no_arms l.i l.invariant.1 e))
 
 pub loop-i-preserved : goal.loop-i-preserved
