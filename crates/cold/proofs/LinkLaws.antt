@@ -6,7 +6,7 @@ use mathlib.Core.Bool.{Bool, true, false, cond}
 use mathlib.Core.List.{List, [], ◌∷◌, ◌++◌, map}
 use lib.Dec.{T}
 use lib.ListN.{get_or}
-use Rattle.limits.specs.Limits.{numbers, most_arms, blocks}
+use Rattle.limits.specs.Limits.{numbers, most_arms}
 use Rattle.lists.proofs.Choices.{split_lt, split_eq}
 use Rattle.rules.specs.Lists.{keep, mem}
 use Rattle.rules.specs.Graph as graph

@@ -11,10 +11,9 @@ use lib.Dec.{eqb, ltb}
 use lib.ListN.{length, get_or, set, length-set}
 use lib.Seq.{get_or-set_same, get_or-set_other}
 use borrow.Author.Tests.{ltb-true, eqb-true}
-use Rattle.limits.specs.Limits.{blocks, arms}
+use Rattle.limits.specs.Limits.{blocks}
 use Rattle.lists.proofs.Choices.{split_lt}
 use Rattle.rules.specs.Graph.{is_cold}
-use Rattle.rules.proofs.Counting.{count}
 use Rattle.cold.specs.Ways.{Links, toward, outs, at, arms_to, ins, cold_sum, cold_ins, Linked, Added, Counts}
 use Rattle.cold.specs.Sweeps.{joining, joins_at, cooled, Chills, Chilled, Cools, Sweeps, Swept, Settled}
 use Rattle.cold.specs.Sweeps.Cools.{still, next}

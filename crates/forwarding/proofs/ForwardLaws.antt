@@ -7,7 +7,7 @@ use mathlib.Core.Logic.{inl, inr}
 use mathlib.Core.List.{List, map}
 use lib.Dec.{eqb}
 use lib.ListN.{length, get_or, replicate}
-use Rattle.limits.specs.Limits.{numbers, most_arms, blocks, arms}
+use Rattle.limits.specs.Limits.{numbers, most_arms, blocks}
 use Rattle.lists.proofs.Choices.{split_lt}
 use Rattle.rules.specs.Graph as graph
 use Rattle.rules.specs.Graph.{numbers_of}

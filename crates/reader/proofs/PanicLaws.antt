@@ -6,7 +6,6 @@ use mathlib.Core.Path.{◌≡◌, sym, ap, subst, ◌∙◌}
 use mathlib.Core.Bool.{true, false}
 use mathlib.Core.List.{List, [], ◌∷◌, ◌++◌}
 use lib.ListN.{length, get_or}
-use Rattle.rules.specs.Graph as graph
 use Rattle.rules.specs.Graph.{Graph}
 use Rattle.rules.specs.Refusals.{Check, check, too_many, panic_checks, Clear, first}
 use Rattle.rules.proofs.Verdicts.{first_after, first_kept, clear_join}

@@ -132,7 +132,7 @@ most_ranks f =
           (split_lt (f b) (f a) (λ i. omega (arith, i, leb→le (f a) (f c) h)) (λ i. absurd (T_not (leb (f a) (f b)) n (le→leb (f a) (f b) i))));
     }
 
-below_ranks : Ranks below
+pub below_ranks : Ranks below
 unfolding below lex
 below_ranks = lex_ranks (λ (s : Seed). s.warm) _ (lex_ranks (λ (s : Seed). s.reached) _ (less_ranks (λ (s : Seed). s.weight)))
 

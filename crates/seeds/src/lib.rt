@@ -12,7 +12,7 @@ ghost use Rattle.seeds.specs.Starts.{seed_by, startable_by, ahead, Among, Starts
 use limits::{ARMS, BLOCKS};
 
 // The block that starts a trace, or that there is none.
-#[derive(Drop)]
+#[derive(Clone, Copy)]
 pub enum Start {
     At(u16),
     Nothing,
@@ -81,7 +81,7 @@ fn below<'a>(
 }
 
 // The better of the best start so far and block n, which comes later in the plain order.
-fn better<'a>(
+pub fn better<'a>(
     marks: &'a [u8; BLOCKS],
     weight: &'a [u64; BLOCKS],
     reached: &'a [u64; BLOCKS],

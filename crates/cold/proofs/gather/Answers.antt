@@ -1,8 +1,7 @@
 -- `cold::gather` meets its contract: while it runs, those of the first i are gathered.
-use Prim.Native.Nat.{ℕ, ◌-◌, ◌<◌, ◌/◌, ◌%◌}
+use Prim.Native.Nat.{ℕ, ◌<◌, ◌/◌, ◌%◌}
 use native.Mathlib.Omega.{arith}
 use mathlib.Core.Path.{◌≡◌, sym, ap, ◌∙◌, subst}
-use mathlib.Core.Logic.{⊎_elim}
 use lib.ListN.{length, take}
 use Rattle.cold.specs.Sides.{Gathered}
 use Rattle.cold.proofs.SideLaws.{gather_start, gather_room, gather_yes, gather_no}

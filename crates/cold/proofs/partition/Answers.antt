@@ -1,5 +1,4 @@
 -- `cold::partition` meets its contract: the warm side, and behind it the cold one.
-use Prim.Native.Nat.{◌≤◌}
 use native.Mathlib.Omega.{arith}
 use mathlib.Core.Path.{◌≡◌, refl, sym, ◌∙◌}
 use lib.ListN.{length}

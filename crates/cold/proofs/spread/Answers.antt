@@ -1,8 +1,5 @@
 -- `cold::spread` meets its contract: the marks settle on the least set.
-use Prim.Native.Nat.{◌≤◌}
-use mathlib.Core.Path.{◌≡◌, sym, ◌∙◌}
-use lib.ListN.{length}
-use Rattle.limits.specs.Limits.{blocks}
+use mathlib.Core.Path.{sym, ◌∙◌}
 use Rattle.cold.proofs.PartLaws.{marks_sized}
 use Rattle.cold.proofs.SpreadLaws.{over_marks, over_linked, spread_settled, spread_still}
 use Rattle.cold.proofs.spread.Goals as goal

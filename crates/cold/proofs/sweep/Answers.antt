@@ -1,5 +1,5 @@
 -- `cold::sweep` meets its contract: while it runs, the blocks at the first i places had their turn.
-use Prim.Native.Nat.{ℕ, ◌-◌}
+use Prim.Native.Nat.{ℕ}
 use native.Mathlib.Omega.{arith}
 use mathlib.Core.Path.{◌≡◌, subst}
 use Rattle.cold.specs.Ways.{links}

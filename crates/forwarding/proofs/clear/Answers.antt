@@ -1,8 +1,6 @@
 -- `forwarding::clear` meets its contract: while it runs, the blocks so far are cleared.
-use Prim.Native.Nat.{◌-◌}
 use native.Mathlib.Numerals.{add-one}
 use native.Mathlib.Omega.{arith}
-use mathlib.Core.Logic.{⊎_elim}
 use mathlib.Core.Path.{◌≡◌, refl, sym, ◌∙◌}
 use lib.ListN.{get_or}
 use Rattle.forwarding.specs.Steps.{useless_of, clears_of}

@@ -1,5 +1,4 @@
 -- `forwarding::goals` meets its contract: while it runs, the goals of the blocks so far are in the table.
-use Prim.Native.Nat.{◌-◌}
 use native.Mathlib.Numerals.{add-one}
 use native.Mathlib.Omega.{arith}
 use mathlib.Core.Path.{◌≡◌, refl, ◌∙◌}

@@ -1,5 +1,4 @@
 -- `forwarding::reach` meets its contract: while it runs, the arms so far are seen.
-use Prim.Native.Nat.{◌-◌}
 use native.Mathlib.Numerals.{add-one}
 use native.Mathlib.Omega.{arith}
 use mathlib.Core.Path.{◌≡◌, refl, ◌∙◌}

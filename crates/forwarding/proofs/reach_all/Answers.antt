@@ -1,5 +1,4 @@
 -- `forwarding::reach_all` meets its contract: while it runs, the arms of the blocks so far are seen.
-use Prim.Native.Nat.{◌-◌}
 use native.Mathlib.Numerals.{add-one}
 use native.Mathlib.Omega.{arith}
 use mathlib.Core.Path.{◌≡◌, refl, ◌∙◌}

@@ -1,8 +1,6 @@
 -- `reader::first_panic` meets its contract: while it runs, no block before has too many arms.
-use Prim.Native.Nat.{◌-◌}
 use native.Mathlib.Omega.{arith}
 use mathlib.Core.Path.{◌≡◌, sym, ◌∙◌}
-use mathlib.Core.Bool.{false}
 use Rattle.lists.proofs.Choices.{split_lt}
 use borrow.Author.Rules.{rules}
 use Rattle.reader.proofs.first_panic.Goals as goal

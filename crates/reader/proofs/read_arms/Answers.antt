@@ -1,5 +1,4 @@
 -- `reader::read_arms` meets its contract: while it runs, the records so far are arms and the tables say what they say.
-use Prim.Native.Nat.{◌-◌}
 use native.Mathlib.Omega.{arith}
 use mathlib.Core.Path.{◌≡◌, refl, sym, subst, ◌∙◌}
 use Rattle.records.specs.declared.Arms.{Arms}

@@ -1,5 +1,4 @@
 -- `reader::read_blocks` meets its contract: while it runs, the records so far are blocks and the tables say what they say.
-use Prim.Native.Nat.{◌-◌}
 use native.Mathlib.Omega.{arith}
 use mathlib.Core.Path.{refl, sym, subst, ◌∙◌}
 use Rattle.rules.proofs.Layouts.{block_small}

@@ -1,5 +1,5 @@
 -- `ways::add_arms` meets its contract: while it runs, the first j arms are counted.
-use Prim.Native.Nat.{ℕ, ◌+◌, ◌-◌, ◌≤◌}
+use Prim.Native.Nat.{ℕ, ◌+◌, ◌≤◌}
 use native.Mathlib.Omega.{arith}
 use mathlib.Core.Path.{◌≡◌, sym, subst}
 use lib.ListN.{get_or}

@@ -1,5 +1,5 @@
 -- `ways::count_cold` meets its contract: while it runs, the arms of the cold ones of the first i blocks are counted.
-use Prim.Native.Nat.{ℕ, ◌-◌}
+use Prim.Native.Nat.{ℕ}
 use native.Mathlib.Omega.{arith}
 use mathlib.Core.Path.{◌≡◌, ap, ◌∙◌, subst}
 use mathlib.Core.Bool.{cond}

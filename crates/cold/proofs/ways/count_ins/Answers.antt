@@ -1,5 +1,5 @@
 -- `ways::count_ins` meets its contract: while it runs, the arms of the first i blocks are counted.
-use Prim.Native.Nat.{ℕ, ◌-◌}
+use Prim.Native.Nat.{ℕ}
 use native.Mathlib.Omega.{arith}
 use mathlib.Core.Path.{◌≡◌, subst}
 use Rattle.cold.specs.Ways.{links, ins, Counts}

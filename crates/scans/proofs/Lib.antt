@@ -1,0 +1,4 @@
+pub mod StartLaws
+pub mod SpanLaws
+pub mod LookLaws
+pub mod CutLaws
