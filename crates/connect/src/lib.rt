@@ -87,6 +87,7 @@ fn better(best: Next, other: Next) -> Next
 }
 
 // The trace that arm q leads to, if it is unused and on the same side of the split.
+#[tactic(auto, using(crate::proofs::LinkLaws::leads_across))]
 fn leads<'a>(
     marks: &'a [u8; BLOCKS],
     to: &'a [u16; ARMS],

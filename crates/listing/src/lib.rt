@@ -14,6 +14,7 @@ use limits::{BLOCKS, NO_SPLIT, NUMBERS};
 use text::{NEWLINE, SPACE};
 
 // Whether another of n listed blocks is of block m's piece.
+#[tactic(auto, using(crate::proofs::LoopLaws::mate_same))]
 fn has_mate<'a>(listed: &'a [u16; BLOCKS], piece: &'a [u16; BLOCKS], n: usize, m: u16) -> bool
     requires { (n ≤ blocks) × (length piece.now ≡ blocks) }
     ensures { result ≡ mate_to listed.now piece.now n m }

@@ -196,6 +196,7 @@ fn liking_of<'a>(seen: &'a [u8; marks::ROOM], starts: &'a [u8; marks::ROOM], n: 
 }
 
 // The best way out so far, with those of block n, which stands at `index` in the part.
+#[tactic(auto, using(crate::proofs::OutLaws::exit_many))]
 fn exits_at<'a>(
     first: &'a [u16; BLOCKS],
     count: &'a [u16; BLOCKS],

@@ -3,11 +3,11 @@ use Prim.Native.Nat.{◌-◌, ◌<◌}
 use native.Mathlib.Omega.{arith}
 use mathlib.Core.Path.{refl, sym, ap, ap₂, ◌∙◌}
 use lib.ListN.{get_or}
-use borrow.Author.Tests.{not-true, not-false}
+use borrow.Author.Rules.{rules}
 use Rattle.limits.specs.Limits.{blocks}
 use Rattle.rules.specs.Graph.{is_cold}
 use Rattle.connect.specs.Joined.{begin_of}
-use Rattle.connect.proofs.LinkLaws.{leads_nowhere, leads_used, leads_across, leads_on, headed_one}
+use Rattle.connect.proofs.LinkLaws.{leads_nowhere, leads_used, leads_on, headed_one}
 use Rattle.connect.proofs.leads.Goals as goal
 
 pub returns-then-h-eq0 : goal.returns-then-h-eq0
@@ -23,13 +23,6 @@ returns-then-is_marked c =
     let a = c.args in
     leads_used a.marks.now a.to.now a.heft.now a.ends.now a.head.now a.used.now a.cold a.q c.entry_of-h.result c.entry_of-h.ensures c.if-h-eq0.false
     (sym c.if-is_marked.true ∙ c.is_marked.ensures)
-
-pub returns-then-cold-there : goal.returns-then-cold-there
-returns-then-cold-there c =
-    let a = c.args in
-    leads_across a.marks.now a.to.now a.heft.now a.ends.now a.head.now a.used.now a.cold a.q c.entry_of-h.result c.entry_of-h.ensures c.if-h-eq0.false
-    c.is_cold-there.result (sym c.if-is_marked.false ∙ c.is_marked.ensures) (c.is_cold-there.ensures ∙ ap is_cold c.byte_of.ensures)
-    (not-true _ c.if-cold-there.true)
 
 pub offset_bounds-ends-k : goal.offset_bounds-ends-k
 offset_bounds-ends-k c = omega (arith, (headed_one c.args.ends.now c.args.head.now _ c.entry_of-h.result c.requires.found.headed c.entry_of-h.ensures c.if-h-eq0.false).0)
@@ -50,4 +43,4 @@ returns c =
     let a = c.args in
     leads_on a.marks.now a.to.now a.heft.now a.ends.now a.head.now a.used.now a.cold a.q c.entry_of-h.result c.entry_of-h.ensures c.if-h-eq0.false
     c.is_cold-there.result (sym c.if-is_marked.false ∙ c.is_marked.ensures) (c.is_cold-there.ensures ∙ ap is_cold c.byte_of.ensures)
-    (not-false _ c.if-cold-there.false) _ refl (ap₂ ◌-◌ c.wide.ensures c.begin.ensures) refl
+    (search rules) _ refl (ap₂ ◌-◌ c.wide.ensures c.begin.ensures) refl

@@ -6,15 +6,9 @@ use Rattle.records.specs.declared.Arms.{Arms}
 use Rattle.records.specs.Tables.{arm_tables}
 use Rattle.marks.specs.Sets.{member}
 use Rattle.rotate.specs.Turning.{way_of, liked}
-use Rattle.rotate.proofs.OutLaws.{exit_start, exit_in, exit_out, exit_end, exit_few, exit_many}
+use Rattle.rotate.proofs.OutLaws.{exit_start, exit_in, exit_out, exit_end, exit_few}
 use borrow.Author.Rules.{rules}
 use Rattle.rotate.proofs.exits_at.Goals as goal
-
-pub returns-then-c-gt2 : goal.returns-then-c-gt2
-returns-then-c-gt2 c =
-    let x = c.args in λ args.
-    exit_many (arm_tables x.first.now x.count.now x.to.now args x.heft.now) (liked x.seen.now x.starts.now) (member x.inside.now) x.index x.n _ _ c.entry_of-f.ensures
-    c.entry_of-c.ensures (way_of x.so) c.if-c-gt2.true
 
 pub loop-i-init : goal.loop-i-init
 loop-i-init c =
@@ -58,4 +52,4 @@ returns c =
     sym (exit_end a (liked x.seen.now x.starts.now) (member x.inside.now) x.index (way_of l.found) _ l.i _ c.loop-i-test.false)
     ∙ l.invariant.2 args
     ∙ exit_few a (liked x.seen.now x.starts.now) (member x.inside.now) x.index x.n _ _ c.entry_of-f.ensures
-    c.entry_of-c.ensures (way_of x.so) c.if-c-gt2.false
+    c.entry_of-c.ensures (way_of x.so) (omega arith)

@@ -1,13 +1,9 @@
 -- `traces::entered_weight` meets its contract.
-use native.Mathlib.Omega.{arith}
 use Rattle.traces.proofs.RoundLaws.{entered_none, entered_some}
 use Rattle.traces.proofs.entered_weight.Goals as goal
 
 pub returns-then-entry-ge-BLOCKS : goal.returns-then-entry-ge-BLOCKS
 returns-then-entry-ge-BLOCKS c = entered_none _ _ c.if-entry-ge-BLOCKS.true
-
-pub bounds-weight-entry : goal.bounds-weight-entry
-bounds-weight-entry c = omega (arith, c.if-entry-ge-BLOCKS.false, c.requires)
 
 pub returns : goal.returns
 returns c = entered_some _ _ c.if-entry-ge-BLOCKS.false
