@@ -14,7 +14,7 @@ fn main() {
     let named = env::var_os("LAYOUT_ARCHIVE").map_or_else(made, PathBuf::from);
     println!("cargo::rerun-if-changed={}", named.display());
     let archive = named.canonicalize().unwrap_or_else(|_| {
-        panic!("no archive at {}: run `rt staticlib layout` or set LAYOUT_ARCHIVE", named.display())
+        panic!("no archive at {}: run `tools/archive` or set LAYOUT_ARCHIVE", named.display())
     });
     let folder = archive.parent().expect("a file stands in a folder");
     let file = archive.file_name().expect("an archive has a name");

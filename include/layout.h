@@ -1,7 +1,7 @@
 /* Block layout: the proved calls, for C and C++ on x86-64 Linux.
  *
- * Link target/staticlib/liblayout.a, which `rt staticlib layout` makes. A call keeps nothing
- * between calls and may be made from any number of threads at once.
+ * Link target/staticlib/liblayout.a, which `tools/archive` makes. A call keeps nothing between
+ * calls and may be made from any number of threads at once.
  */
 #ifndef LAYOUT_H
 #define LAYOUT_H

@@ -100,7 +100,9 @@ fn through(size: usize) -> Graph {
     for at in (0..size).step_by(4) {
         let last = (at + 4) % size;
         let ends = [(BRANCH, 10_000), (NOTHING, 4_000), (NOTHING, 4_000), (NOTHING, 6_000)];
-        graph.blocks.extend((at..).zip(ends).map(|(at, (end, weight))| plain_block(at, end, weight)));
+        graph
+            .blocks
+            .extend((at..).zip(ends).map(|(at, (end, weight))| plain_block(at, end, weight)));
         graph.arms.push(plain_arm(at, at + 1, 4_000));
         graph.arms.push(plain_arm(at, at + 3, 6_000));
         graph.arms.push(plain_arm(at + 1, at + 2, 4_000));
@@ -127,10 +129,8 @@ fn nest(size: usize) -> Graph {
     let often = |at: usize| 10_u64.saturating_pow(at as u32 + 5);
     let again = |at: usize| often(at) / 10 * 9;
     let (block, arm) = (plain_block, plain_arm);
-    let mut graph = Graph {
-        blocks: vec![block(0, ORDINARY, 10_000)],
-        arms: vec![arm(0, head(0), 10_000)],
-    };
+    let mut graph =
+        Graph { blocks: vec![block(0, ORDINARY, 10_000)], arms: vec![arm(0, head(0), 10_000)] };
     for at in 0..depth {
         let inside = if at + 1 < depth { head(at + 1) } else { back(at) };
         let outside = if at > 0 { back(at - 1) } else { out };
@@ -190,9 +190,6 @@ mod tests {
 
     const BOTH: Choices = Choices { forward: true, reorder: true };
 
-    /// The numbers of arms of the graphs that have something of everything.
-    const MIXED: [usize; 3] = [256, 384, 60];
-
     #[test]
     fn a_graph_is_refused_or_has_another_size() {
         let sizes = [
@@ -221,8 +218,7 @@ mod tests {
 
     #[test]
     fn a_pass_has_nothing_to_do_on_a_graph_of_many_blocks() {
-        let mixed = super::all().into_iter().filter(|(_, graph)| MIXED.contains(&graph.arms.len()));
-        for (name, graph) in mixed {
+        for (name, graph) in super::all().into_iter().take(3) {
             let laid = model::lay(&graph, BOTH, None);
             assert!(laid.moved > 0 && laid.bridges > 0 && laid.split < 256, "{name}");
             assert!(model::account(&graph, BOTH).reordered, "{name}");

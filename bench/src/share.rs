@@ -99,8 +99,12 @@ fn of(archive: Archive, graphs: &[Graph]) -> (usize, usize) {
 
 /// Prints a line for each graph, by all four choices, and one for the real functions.
 pub fn print(archive: Archive) {
-    let action =
-        Action { handler: look, mask: [0; 16], flags: SA_SIGINFO | SA_RESTART, restorer: ptr::null() };
+    let action = Action {
+        handler: look,
+        mask: [0; 16],
+        flags: SA_SIGINFO | SA_RESTART,
+        restorer: ptr::null(),
+    };
     let set = unsafe { sigaction(SIGALRM, &action, ptr::null_mut()) };
     assert_eq!(set, 0, "the signal is taken");
     let real = real::functions().into_iter().map(|(_, graph)| graph).collect();

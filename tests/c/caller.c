@@ -6,7 +6,7 @@
  */
 #include "layout.h"
 
-/* Not from a header: a machine that emulates x86-64 has its C library but not its headers. */
+/* As the C library has them, in plain types. */
 long read(int file, void *to, size_t len);
 long write(int file, const void *from, size_t len);
 

@@ -11,7 +11,6 @@ use lib.ListN.{length, get_or, take, length-take}
 use lib.Seq.{get_or-take}
 use borrow.Author.Tests.{le-leb, lt-ltb, le-ltb, eq-eqb, ne_eqb}
 use Rattle.limits.specs.Limits.{blocks}
-use Rattle.rules.specs.declared.Leaving.{Leaving}
 use Rattle.rules.specs.declared.Leaving.TheVariants.{Nothing}
 use Rattle.rules.specs.Lists.{pick}
 use Rattle.rules.specs.Graph.{Arm, names}

@@ -1,4 +1,4 @@
-// The public calls, for C and Rust to link (include/layout.h). Each tests its input itself, asks nothing of its caller, and
+// The public calls, which `layout_c` exports for C and Rust to link. Each tests its input itself, asks nothing of its caller, and
 // answers what `rules` says in Outcome, for all bytes and all lent lengths.
 #![tactic(auto)]
 
@@ -123,8 +123,7 @@ fn write_back(
 }
 
 // Reads the records of `input` and writes them back to the front of `out`. A refusal (1 to 10) changes no byte of `out`.
-#[unsafe(no_mangle)]
-pub extern "C" fn layout_write_back(input: &[u8], out: &mut [u8]) -> Answer
+pub fn layout_write_back(input: &[u8], out: &mut [u8]) -> Answer
     ensures value { result ≡ (write_back input.now out.old).answer }
     ensures out_after { out.new ≡ (write_back input.now out.old).lent }
 {
@@ -321,13 +320,7 @@ fn lay_file(
 
 // Reads the records of `input`, forwards and reorders if asked to, and lays the blocks: laid records at the front of `out`.
 // A refusal (1 to 10) changes no byte of `out`.
-#[unsafe(no_mangle)]
-pub extern "C" fn layout_blocks(
-    input: &[u8],
-    forward: bool,
-    reorder: bool,
-    out: &mut [u8],
-) -> Answer
+pub fn layout_blocks(input: &[u8], forward: bool, reorder: bool, out: &mut [u8]) -> Answer
     ensures value { result ≡ (layout_blocks forward reorder input.now out.old).answer }
     ensures out_after { out.new ≡ (layout_blocks forward reorder input.now out.old).lent }
 {

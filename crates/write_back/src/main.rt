@@ -2,34 +2,34 @@
 // All that decides anything is in `layout`: this program moves bytes.
 #![tactic(auto)]
 
-ghost use Rattle.io.specs.Counts.{IsPrefixLen};
+ghost use Rattle.std.specs.Prelude.{◌≡◌, ◌≤◌, length, take};
+
+use std::io;
+use std::io::{Print, Read, Write};
+
+// Longer than the longest file, so that a file which is too long is seen to be.
+const ROOM: usize = 1 << 16;
 
 // How many of buf's bytes n are, at most all.
 fn within(n: u64, buf: &[u8]) -> usize
-    ensures { IsPrefixLen result buf.now }
+    ensures in_bounds { result ≤ length buf.now }
+    ensures prefix { result ≡ length (take result buf.now) }
 {
     let k = n as usize;
     if k < buf.len() { k } else { buf.len() }
 }
 
-fn print_refusal(number: u64, place: u64) {
-    io::write_all(1, b"refused ");
-    io::print_decimal(1, number);
-    io::write_all(1, b" at ");
-    io::print_decimal(1, place);
-    io::write_all(1, b"\n");
+fn print_refusal(out: &impl Print, number: u64, place: u64) -> io::Result<()> {
+    println!(out; "refused {number} at {place}")
 }
 
-// The buffers are longer than the longest file, so that a file which is too long is seen to be.
-fn main() {
-    let mut input = io::large_buffer();
-    let mut out = io::large_buffer();
-    let n = io::read_full(0, &mut input);
-    let answer = layout::layout_write_back(&input[..n], &mut out);
+fn main(rt: HostRuntime) -> io::Result<()> {
+    let mut input: [u8; ROOM] = [0; ROOM];
+    let mut out: [u8; ROOM] = [0; ROOM];
+    let n = io::copy(&mut rt.stdin().take(ROOM as u64), &mut &mut input[..])?;
+    let answer = layout::layout_write_back(&input[..within(n, &input)], &mut out);
     if answer.refusal != 0 {
-        print_refusal(answer.refusal, answer.place);
-        return;
+        return print_refusal(&rt.stdout(), answer.refusal, answer.place);
     }
-    let written = within(answer.written, &out);
-    io::write_all(1, &out[..written]);
+    rt.stdout().write_all(&out[..within(answer.written, &out)])
 }

@@ -1,8 +1,7 @@
 //! The proved archive through its C interface, and the listing program.
 //!
-//! The archive is for x86-64 alone, so the calls are made by a small C program that links it and
-//! is asked over pipes. On another processor the programs run under the emulator of the kit that
-//! made the archive; the tests are the same.
+//! The calls are made by a small C program that links the archive and is asked over pipes. The
+//! archive, the program and the kit that builds them are for x86-64 alone.
 
 mod caller;
 mod program;

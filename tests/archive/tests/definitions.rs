@@ -4,9 +4,9 @@
 use archive::repository;
 use judge::cases::{self, Call, Case, Run};
 use judge::records::{Choices, RECORD};
-use std::fs;
 use std::path::{Path, PathBuf};
 use std::process::Command;
+use std::{env, fs, process};
 
 /// The crates that hold the definitions, lowest first.
 const CRATES: [&str; 3] = ["limits", "lists", "rules"];
@@ -18,23 +18,24 @@ const EVERY: usize = 4;
 /// What has to be opened for a call to be computed, module by module.
 const OPENED: [(&str, &str); 8] = [
     ("Lists", "pick"),
-    ("Graph", "isEntry"),
+    ("Graph", "is_entry"),
     (
         "Records",
-        "gapZero blockOf armOf recordOf fields blockBytes armBytes recordAt before records leaving \
-         armsOf listing blocksOf graphOf blocksBytes leavingBytes armsBytes written",
+        "gap_zero block_of arm_of record_of fields block_bytes arm_bytes record_at before records \
+         leaving arms_of listing blocks_of graph_of blocks_bytes leaving_bytes arms_bytes written",
     ),
     (
         "Refusals",
-        "placeOf entryOf armCount lastOf listed recordChecks allChecks tooMany panicChecks checks \
-         fine first verdict",
+        "place_of entry_of arm_count last_of listed record_checks all_checks too_many panic_checks \
+         checks fine first verdict",
     ),
     ("Forward", "moves"),
-    ("Laid", "layout splitOf laidBytes"),
-    ("Outcome", "refusal refused writtenBack backOf writeBack laid layoutOf layoutBlocks"),
+    ("Laid", "layout split_of laid_bytes"),
+    ("Outcome", "refusal refused written_back back_of write_back laid layout_of layout_blocks"),
     (
         "Listing",
-        "digits decimal line letter placeLine placeLines splitLine refusalLine listingOf blocklist",
+        "digits decimal line letter place_line place_lines split_line refusal_line listing_of \
+         blocklist",
     ),
 ];
 
@@ -61,8 +62,8 @@ fn list(bytes: &[u8]) -> String {
 /// A call as a theorem: the outcome is what is stored, and the prover is to see it by computing.
 fn theorem(index: usize, input: &[u8], run: &Run) -> String {
     let call = match run.call {
-        Call::WriteBack => "writeBack".to_owned(),
-        Call::Layout(Choices { forward, reorder }) => format!("layoutBlocks {forward} {reorder}"),
+        Call::WriteBack => "write_back".to_owned(),
+        Call::Layout(Choices { forward, reorder }) => format!("layout_blocks {forward} {reorder}"),
     };
     let lent = vec![0xee; run.lent];
     let mut after = lent.clone();
@@ -75,13 +76,13 @@ fn theorem(index: usize, input: &[u8], run: &Run) -> String {
         .collect();
     let (input, lent, after) = (list(input), list(&lent), list(&after));
     let outcome = format!("record {{ answer = record {{ {fields}}}; lent = {after} }}");
-    computed(&format!("call-{index}"), &format!("{call} {input} {lent}"), &outcome)
+    computed(&format!("call_{index}"), &format!("{call} {input} {lent}"), &outcome)
 }
 
 /// A listing as a theorem.
 fn listing_theorem(index: usize, case: &Case) -> String {
     let (input, printed) = (list(&case.input), list(case.listing.as_bytes()));
-    computed(&format!("listing-{index}"), &format!("blocklist {input}"), &printed)
+    computed(&format!("listing_{index}"), &format!("blocklist {input}"), &printed)
 }
 
 fn computed(name: &str, term: &str, value: &str) -> String {
@@ -91,12 +92,12 @@ fn computed(name: &str, term: &str, value: &str) -> String {
 
 fn uses() -> String {
     let module = |(module, names): (&str, &str)| {
-        format!("use Rattle·rules.specs.{module}.{{{}}}\n", names.replace(' ', ", "))
+        format!("use Rattle.rules.specs.{module}.{{{}}}\n", names.replace(' ', ", "))
     };
     let rules: String = OPENED.map(module).concat();
     format!(
-        "use mathlib.Core.Path.{{_≡_, refl}}\nuse mathlib.Core.Bool.{{true, false}}\n\
-         use mathlib.Core.List.{{List, [], _∷_}}\n{rules}\n"
+        "use mathlib.Core.Path.{{◌≡◌, refl}}\nuse mathlib.Core.Bool.{{true, false}}\n\
+         use mathlib.Core.List.{{List, [], ◌∷◌}}\n{rules}\n"
     )
 }
 
@@ -113,37 +114,48 @@ fn copied(from: &Path, to: &Path) {
     }
 }
 
-/// A repository of the definitions and one crate more, whose theorems are these.
-fn made(name: &str, theorems: &str) -> PathBuf {
-    let folder = Path::new(env!("CARGO_TARGET_TMPDIR")).join(name);
-    let _ = fs::remove_dir_all(&folder);
-    for name in CRATES {
-        for part in ["src", "specs", "proofs"] {
-            let inside = Path::new("crates").join(name).join(part);
-            let from = repository().join(&inside);
-            if from.is_dir() {
-                copied(&from, &folder.join(&inside));
+/// A repository of the definitions and one crate more, whose theorems are asked for. It lies outside
+/// of ours, where `rt ci` refuses such files, and goes with this value.
+struct Made(PathBuf);
+
+impl Made {
+    fn of(name: &str, theorems: &str) -> Self {
+        let folder = env::temp_dir().join(format!("{name}-{}", process::id()));
+        for name in CRATES {
+            for part in ["src", "specs", "proofs"] {
+                let inside = Path::new("crates").join(name).join(part);
+                let from = repository().join(&inside);
+                if from.is_dir() {
+                    copied(&from, &folder.join(&inside));
+                }
             }
         }
+        let own = folder.join("crates/stored");
+        for part in ["src", "proofs"] {
+            fs::create_dir_all(own.join(part)).expect("the folder can be made");
+        }
+        let put = |file, text: &str| fs::write(file, text).expect("the file can be written");
+        put(own.join("src/lib.rt"), "// Theorems alone.\n#![tactic(auto)]\n");
+        put(own.join("proofs/Lib.antt"), "mod Stored\n");
+        put(own.join("proofs/Stored.antt"), &(uses() + theorems));
+        let list = "limits:\nlists: limits\nrules: limits lists\nstored: limits lists rules\n";
+        put(folder.join("crates.txt"), list);
+        Made(folder)
     }
-    let own = folder.join("crates/stored");
-    for part in ["src", "specs", "proofs"] {
-        fs::create_dir_all(own.join(part)).expect("the folder can be made");
+
+    /// Whether the prover proves them, and what it says.
+    fn proved(&self) -> (bool, String) {
+        let check =
+            Command::new("rt").arg("check").current_dir(self.0.join("crates/stored")).output();
+        let output = check.expect("rt is on the path");
+        (output.status.success(), String::from_utf8_lossy(&output.stdout).into_owned())
     }
-    let put = |file: PathBuf, text: &str| fs::write(file, text).expect("the file can be written");
-    put(own.join("src/lib.rt"), "// Theorems alone.\n");
-    put(own.join("specs/Lib.antt"), "pub mod Stored\n");
-    put(own.join("specs/Stored.antt"), &(uses() + theorems));
-    let list = "limits:\nlists: limits\nrules: limits lists\nstored: limits lists rules\n";
-    put(folder.join("crates.txt"), list);
-    folder
 }
 
-/// What the prover says of them.
-fn proved(folder: &Path) -> (bool, String) {
-    let check = Command::new("rt").args(["check", "stored"]).current_dir(folder).output();
-    let output = check.expect("rt is on the path");
-    (output.status.success(), String::from_utf8_lossy(&output.stdout).into_owned())
+impl Drop for Made {
+    fn drop(&mut self) {
+        fs::remove_dir_all(&self.0).expect("the folder can be removed");
+    }
 }
 
 #[test]
@@ -159,7 +171,7 @@ fn the_definitions_say_something_else_than_the_vectors() {
     assert!(listings.len() >= 40, "{} listings are too few", listings.len());
     let calls = calls.iter().enumerate().map(|(index, (input, run))| theorem(index, input, run));
     let listings = listings.iter().enumerate().map(|(index, case)| listing_theorem(index, case));
-    let (good, said) = proved(&made("definitions", &calls.chain(listings).collect::<String>()));
+    let (good, said) = Made::of("definitions", &calls.chain(listings).collect::<String>()).proved();
     assert!(good, "{said}");
 }
 
@@ -167,6 +179,7 @@ fn the_definitions_say_something_else_than_the_vectors() {
 fn the_prover_takes_a_wrong_number_for_right() {
     let (input, mut run) = small().swap_remove(0);
     run.answer.blocks += 1;
-    let (good, _) = proved(&made("mistaken", &theorem(0, &input, &run)));
+    let (good, said) = Made::of("mistaken", &theorem(0, &input, &run)).proved();
     assert!(!good, "a stored answer with one block more was proved");
+    assert!(said.contains("error: `call_0`"), "it was refused for something else: {said}");
 }

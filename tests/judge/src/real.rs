@@ -38,7 +38,8 @@ pub fn functions() -> Vec<(String, Graph)> {
         let mut words = line.split('\t');
         let name = words.by_ref().take(2).collect::<Vec<_>>().join(" ");
         let size: Vec<usize> = words.map(|word| word.parse().expect("a size")).collect();
-        let graph = reading::read(file).unwrap_or_else(|said| panic!("{name} is refused: {said:?}"));
+        let graph =
+            reading::read(file).unwrap_or_else(|said| panic!("{name} is refused: {said:?}"));
         assert_eq!(size, [graph.blocks.len(), graph.arms.len()], "{name}");
         (name, graph)
     };

@@ -36,19 +36,19 @@ loop-q-preserved c =
     let p : ℕ → _ = fits_by a.marks.now a.to.now h a.seen.now c.is_cold-cold.result c.weight_of-whole.result a.likely a.low in
     elim c.if-fits.branch [
       | then-fits w ↦ (
-          omega (arith, v.0),
-          omega (arith, lt),
-          v.2,
-          rw (w.best-is, w.better-best.ensures) (heavier_within h _ _ c.loop-q.q c.loop-q.best v.0 lt v.3),
-          chosen_yes p h c.loop-q.best c.loop-q.q _ lt _ (sym c.fits.ensures ∙ w.if-fits.true) (w.best-is ∙ w.better-best.ensures) ∙ v.4,
-        )
+        omega (arith, v.0),
+        omega (arith, lt),
+        v.2,
+        rw (w.best-is, w.better-best.ensures) (heavier_within h _ _ c.loop-q.q c.loop-q.best v.0 lt v.3),
+        chosen_yes p h c.loop-q.best c.loop-q.q _ lt _ (sym c.fits.ensures ∙ w.if-fits.true) (w.best-is ∙ w.better-best.ensures) ∙ v.4,
+      )
       | else-fits w ↦ (
-          omega (arith, v.0),
-          omega (arith, lt),
-          v.2,
-          rw w.best-is v.3,
-          rw w.best-is (chosen_no p h c.loop-q.best c.loop-q.q _ lt (sym c.fits.ensures ∙ w.if-fits.false) ∙ v.4),
-        )
+        omega (arith, v.0),
+        omega (arith, lt),
+        v.2,
+        rw w.best-is v.3,
+        rw w.best-is (chosen_no p h c.loop-q.best c.loop-q.q _ lt (sym c.fits.ensures ∙ w.if-fits.false) ∙ v.4),
+      )
     ]
 
 pub returns : goal.returns

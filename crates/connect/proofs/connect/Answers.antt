@@ -28,8 +28,14 @@ is_marked-requires c = c.loop-from.invariant.1.places.used_sized
 
 pub follow-len-requires : goal.follow-len-requires
 follow-len-requires c =
-    record { lent = c.requires.0; by_index = (c.args.found, turn_begins c.args.marks.now c.args.first.now c.args.count.now c.args.to.now c.args.heft.now c.args.order.now c.args.ends.now c.args.found c.loop-from.used c.loop-from.block c.loop-from.len c.loop-from.from
-    c.loop-from-test.true c.loop-from.invariant.1 c.heads-head.result c.requires.1 c.heads-head.ensures (sym c.is_marked.ensures ∙ c.if-not-is_marked.true)) }
+    record {
+      lent = c.requires.0;
+      by_index = (
+        c.args.found,
+        turn_begins c.args.marks.now c.args.first.now c.args.count.now c.args.to.now c.args.heft.now c.args.order.now c.args.ends.now c.args.found c.loop-from.used c.loop-from.block c.loop-from.len c.loop-from.from
+            c.loop-from-test.true c.loop-from.invariant.1 c.heads-head.result c.requires.1 c.heads-head.ensures (sym c.is_marked.ensures ∙ c.if-not-is_marked.true),
+      );
+    }
 
 pub loop-from-preserved : goal.loop-from-preserved
 loop-from-preserved c =
@@ -46,11 +52,11 @@ loop-from-preserved c =
                 c.loop-from.invariant.1 _ _ _ e (w.follow-len.ensures a.found b)),
           ))
       | else-not-is_marked w ↦ (
-          omega (arith, lt),
-          rw (w.used-is, w.block-is, w.len-is)
-              (turn_used a.marks.now a.first.now a.count.now a.to.now a.heft.now a.order.now a.ends.now a.found c.loop-from.used c.loop-from.block c.loop-from.len c.loop-from.from lt
-              c.loop-from.invariant.1 (sym c.is_marked.ensures ∙ w.if-not-is_marked.false)),
-        )
+        omega (arith, lt),
+        rw (w.used-is, w.block-is, w.len-is)
+            (turn_used a.marks.now a.first.now a.count.now a.to.now a.heft.now a.order.now a.ends.now a.found c.loop-from.used c.loop-from.block c.loop-from.len c.loop-from.from lt
+            c.loop-from.invariant.1 (sym c.is_marked.ensures ∙ w.if-not-is_marked.false)),
+      )
     ]
 
 pub returns : goal.returns

@@ -30,11 +30,14 @@ pub copy-laid-requires : goal.copy-laid-requires
 copy-laid-requires c =
     let b = (c.loop-link.invariant c.requires.by_index.0 c.requires.by_index.1).begins in
     let begin = c.begin.ensures in
-    let end = c.wide-end.ensures in record { order_len = (b.joinable.order_sized, b.places.block_sized); from_le_end = (
+    let end = c.wide-end.ensures in record {
+      order_len = (b.joinable.order_sized, b.places.block_sized);
+      from_le_end = (
         omega (arith, begin, end, some_blocks _ _ _ _ _ _ _ _ b),
         omega (arith, end, within _ _ _ _ _ _ _ _ b, b.joinable.last),
         omega (arith, begin, end, room_for _ _ _ _ _ _ _ _ b _ c.mark.ensures.1),
-      ) }
+      );
+    }
 
 pub overflow_sub-last : goal.overflow_sub-last
 overflow_sub-last c =

@@ -39,6 +39,9 @@ returns c =
     let f = c.entry_of-f in
     let k = c.entry_of in
     let a = c.args in
-    let v = c.loop-q.invariant in record { unused = v.3; best_by = chosen_all a.marks.now a.first.now a.count.now a.to.now a.heft.now a.ends.now a.head.now a.used.now a.n
+    let v = c.loop-q.invariant in record {
+      unused = v.3;
+      best_by = chosen_all a.marks.now a.first.now a.count.now a.to.now a.heft.now a.ends.now a.head.now a.used.now a.n
           c.is_cold-cold.result f.result k.result (c.is_cold-cold.ensures ∙ ap is_cold c.byte_of.ensures) f.ensures k.ensures
-          c.loop-q.best (sym v.4 ∙ chosen_end _ (link_of c.loop-q.best) c.loop-q.q _ c.loop-q-test.false) }
+          c.loop-q.best (sym v.4 ∙ chosen_end _ (link_of c.loop-q.best) c.loop-q.q _ c.loop-q-test.false);
+    }

@@ -1,5 +1,5 @@
 -- `cycles::gather` meets its contract: while it runs, the blocks of the list up to here are in pieces.
-use Prim.Native.Nat.{ℕ, ◌+◌, ◌-◌}
+use Prim.Native.Nat.{ℕ, ◌+◌}
 use mathlib.Core.Path.{◌≡◌}
 use mathlib.Core.List.{List}
 use lib.ListN.{length}

@@ -1,5 +1,5 @@
 -- `cycles::link_all` meets its contract: while it runs, the arms of the first i listed blocks are linked.
-use Prim.Native.Nat.{ℕ, ◌+◌, ◌-◌, ◌<◌}
+use Prim.Native.Nat.{ℕ, ◌+◌, ◌<◌}
 use native.Mathlib.Omega.{arith}
 use mathlib.Core.Path.{◌≡◌, sym, subst}
 use lib.ListN.{get_or}
@@ -22,13 +22,16 @@ link_arms-requires c =
     let p = c.requires.linkable in
     let m = get_or x.listed.now l.i 0 in
     let ec = c.entry_of-c.ensures in
-    let eq = c.entry_of-q.ensures in record { sized = (
+    let eq = c.entry_of-q.ensures in record {
+      sized = (
         l.invariant.2,
         p.to_sized,
         omega (arith, ec, eq, p.fits m),
         omega (arith, ec, l.invariant.1, p.room, arms_fit x.listed.now x.count.now l.i x.n h),
         p.low l.i h,
-      ); by_index = λ j k. subst (λ (z : ℕ). get_or x.to.now (z + j) 0 < blocks) (sym eq) (p.goes l.i h j (omega (arith, k, ec))) }
+      );
+      by_index = λ j k. subst (λ (z : ℕ). get_or x.to.now (z + j) 0 < blocks) (sym eq) (p.goes l.i h j (omega (arith, k, ec)));
+    }
 
 pub overflow_add-at : goal.overflow_add-at
 overflow_add-at c =

@@ -1,5 +1,4 @@
 -- `cycles::link_arms` meets its contract: while it runs, the first j arms are linked.
-use Prim.Native.Nat.{◌-◌}
 use native.Mathlib.Omega.{arith}
 use mathlib.Core.Path.{◌≡◌}
 use Rattle.cycles.specs.Inward.{entered}

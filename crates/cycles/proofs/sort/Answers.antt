@@ -1,5 +1,5 @@
 -- `cycles::sort` meets its contract: while it runs, the first i blocks of the order are in pieces.
-use Prim.Native.Nat.{ℕ, ◌-◌}
+use Prim.Native.Nat.{ℕ}
 use native.Mathlib.Omega.{arith}
 use mathlib.Core.Path.{◌≡◌, subst}
 use Rattle.cycles.specs.Gathering.{Sorted, none}

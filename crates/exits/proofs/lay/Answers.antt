@@ -1,18 +1,16 @@
 -- `exits::lay` meets its contract: while it runs, the blocks so far are laid as they should be.
-use Prim.Native.Nat.{ℕ, ◌+◌, ◌-◌, ◌≤◌}
+use Prim.Native.Nat.{ℕ, ◌+◌}
 use native.Mathlib.Omega.{arith}
 use mathlib.Core.Path.{◌≡◌, refl, sym, ap, ◌∙◌, subst}
 use mathlib.Core.List.{[]}
-use Rattle.records.specs.declared.Arms.{Arms}
-use Rattle.records.specs.Tables.{only_blocks, block_tables, arm_tables, ArmsSized, ArmsWithin, in_order}
-use Rattle.limits.specs.Limits.{numbers, blocks, arms}
+use Rattle.records.specs.Tables.{only_blocks, block_tables, arm_tables, in_order}
+use Rattle.limits.specs.Limits.{arms}
 use lib.ListN.{length, get_or, length-set}
 use Rattle.rules.specs.Exits.{exit_of}
-use Rattle.exits.specs.Lays.{bridge_arm, Orderly}
+use Rattle.exits.specs.Lays.{bridge_arm}
 use Rattle.exits.proofs.Steps.{Laying}
 use Rattle.exits.proofs.Turns.{order_length, room, how_is, bridge_low, plain_step, bridge_step}
 use Rattle.exits.proofs.Finished.{laying_start, fits_order, fits_blocks, lays}
-use borrow.Author.Rules.{rules}
 use Rattle.exits.proofs.lay.Goals as goal
 
 pub loop-i-init : goal.loop-i-init

@@ -1,5 +1,4 @@
 -- `exits::leave` meets its contract: while it runs, the arms so far are as they are left.
-use Prim.Native.Nat.{◌-◌}
 use native.Mathlib.Omega.{arith}
 use Rattle.records.specs.Tables.{only_arms}
 use Rattle.exits.proofs.LeftArms.{source_below, leaves_start, leaves_turn, leaves_end}

@@ -14,9 +14,12 @@ use Rattle.rotate.proofs.back_arm.Goals.{then-heft-best, else-heft-best}
 pub returns-then-c-eq0 : goal.returns-then-c-eq0
 unfolding arm_of
 returns-then-c-eq0 c =
-    let x = c.args in record { held = tt; result_value = λ of to args.
+    let x = c.args in record {
+      held = tt;
+      result_value = λ of to args.
           sym
-          (back_none (arm_tables x.first.now x.count.now to args x.heft.now) of x.n _ _ c.entry_of-f.ensures c.entry_of-c.ensures c.if-c-eq0.true) }
+          (back_none (arm_tables x.first.now x.count.now to args x.heft.now) of x.n _ _ c.entry_of-f.ensures c.entry_of-c.ensures c.if-c-eq0.true);
+    }
 
 pub loop-i-init : goal.loop-i-init
 loop-i-init c =
@@ -30,24 +33,27 @@ loop-i-preserved c =
     let lt = c.loop-i-test.true in
     elim c.if-heft-best.branch [
       | then-heft-best w ↦ (
-          omega arith,
-          l.invariant.1,
-          rw w.best-is (omega arith),
-          λ to args. rw w.best-is (later (arm_tables x.first.now x.count.now to args x.heft.now) l.best _ l.i _ lt w.if-heft-best.true ∙ l.invariant.3 to args),
-        )
+        omega arith,
+        l.invariant.1,
+        rw w.best-is (omega arith),
+        λ to args. rw w.best-is (later (arm_tables x.first.now x.count.now to args x.heft.now) l.best _ l.i _ lt w.if-heft-best.true ∙ l.invariant.3 to args),
+      )
       | else-heft-best w ↦ (
-          omega arith,
-          l.invariant.1,
-          rw w.best-is l.invariant.2,
-          λ to args. rw w.best-is (earlier (arm_tables x.first.now x.count.now to args x.heft.now) l.best _ l.i _ lt w.if-heft-best.false ∙ l.invariant.3 to args),
-        )
+        omega arith,
+        l.invariant.1,
+        rw w.best-is l.invariant.2,
+        λ to args. rw w.best-is (earlier (arm_tables x.first.now x.count.now to args x.heft.now) l.best _ l.i _ lt w.if-heft-best.false ∙ l.invariant.3 to args),
+      )
     ]
 
 pub returns : goal.returns
 unfolding arm_of
 returns c =
     let x = c.args in
-    let l = c.loop-i in record { held = l.invariant.2; result_value = λ of to args.
+    let l = c.loop-i in record {
+      held = l.invariant.2;
+      result_value = λ of to args.
           let a : Arms = arm_tables x.first.now x.count.now to args x.heft.now in
           sym (heaviest_end a l.best _ l.i _ c.loop-i-test.false) ∙ l.invariant.3 to args
-          ∙ back_some a of x.n _ _ c.entry_of-f.ensures c.entry_of-c.ensures (omega arith) }
+          ∙ back_some a of x.n _ _ c.entry_of-f.ensures c.entry_of-c.ensures (omega arith);
+    }

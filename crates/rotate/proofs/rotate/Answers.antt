@@ -10,13 +10,19 @@ use Rattle.rotate.proofs.rotate.Goals as goal
 
 pub returns-then-e-p : goal.returns-then-e-p
 returns-then-e-p c =
-    let x = c.args in record { order_len = c.requires.trace_at.sized; rotated = rotated_none x.marks.now x.weight.now x.first.now x.count.now x.to.now x.heft.now x.seen.now x.starts.now x.entry x.s x.e x.order.now c.requires.trace_at _ c.turning_place-p.ensures
-          c.if-e-p.true }
+    let x = c.args in record {
+      order_len = c.requires.trace_at.sized;
+      rotated = rotated_none x.marks.now x.weight.now x.first.now x.count.now x.to.now x.heft.now x.seen.now x.starts.now x.entry x.s x.e x.order.now c.requires.trace_at _ c.turning_place-p.ensures
+          c.if-e-p.true;
+    }
 
 pub returns-in_default : goal.returns-in_default
 returns-in_default c =
-    let x = c.args in record { order_len = c.requires.trace_at.sized; rotated = rotated_stuck x.marks.now x.weight.now x.first.now x.count.now x.to.now x.heft.now x.seen.now x.starts.now x.entry x.s x.e x.order.now c.requires.trace_at _
-          c.turning_place-p.ensures _ c.inside_of-inside.ensures.1 _ c.best_exit-out.ensures c.in_default.is }
+    let x = c.args in record {
+      order_len = c.requires.trace_at.sized;
+      rotated = rotated_stuck x.marks.now x.weight.now x.first.now x.count.now x.to.now x.heft.now x.seen.now x.starts.now x.entry x.s x.e x.order.now c.requires.trace_at _
+          c.turning_place-p.ensures _ c.inside_of-inside.ensures.1 _ c.best_exit-out.ensures c.in_default.is;
+    }
 
 pub overflow_add-index : goal.overflow_add-index
 -- the turn stays within the part
@@ -38,5 +44,8 @@ turn_part-requires c =
 
 pub returns : goal.returns
 returns c =
-    let x = c.args in record { order_len = c.turn_part.ensures.order_len; rotated = rotated_so x.marks.now x.weight.now x.first.now x.count.now x.to.now x.heft.now x.seen.now x.starts.now x.entry x.s x.e x.order.now c.requires.trace_at _
-          c.turning_place-p.ensures _ c.inside_of-inside.ensures.1 _ c.best_exit-out.ensures _ _ _ c.in-Way.is _ c.turn_part.ensures.order_after }
+    let x = c.args in record {
+      order_len = c.turn_part.ensures.order_len;
+      rotated = rotated_so x.marks.now x.weight.now x.first.now x.count.now x.to.now x.heft.now x.seen.now x.starts.now x.entry x.s x.e x.order.now c.requires.trace_at _
+          c.turning_place-p.ensures _ c.inside_of-inside.ensures.1 _ c.best_exit-out.ensures _ _ _ c.in-Way.is _ c.turn_part.ensures.order_after;
+    }

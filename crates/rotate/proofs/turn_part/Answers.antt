@@ -14,6 +14,9 @@ copy-requires-2 c = (omega arith, omega arith, search rules, c.copy.ensures.orde
 
 pub returns : goal.returns
 returns c =
-    let x = c.args in record { order_len = c.copy-2.ensures.order_len; order_after = c.copy-2.ensures.order_after
+    let x = c.args in record {
+      order_len = c.copy-2.ensures.order_len;
+      order_after = c.copy-2.ensures.order_after
           ∙ ap (λ (l : List ℕ). paste l (x.p + (x.e - x.p - x.k)) (drop x.p x.order.now) x.k) c.copy.ensures.order_after
-          ∙ turn_is x.order.now x.p x.e x.k c.requires.0 (omega arith) }
+          ∙ turn_is x.order.now x.p x.e x.k c.requires.0 (omega arith);
+    }

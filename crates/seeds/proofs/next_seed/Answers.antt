@@ -23,15 +23,15 @@ loop-i-preserved c =
     let m = sym c.startable.ensures in
     elim c.if-startable.branch [
       | then-startable w ↦ (
-          omega (arith, lt),
-          rw (w.best-is, w.better-best.ensures) (better_among seed a.weight.now a.seen.now a.order.now a.low c.loop-i.i a.len c.loop-i.best _ lt le refl (m ∙ w.if-startable.true) v.1),
-          chosen_yes p seed c.loop-i.best a.order.now c.loop-i.i a.len _ lt le refl _ (m ∙ w.if-startable.true) (w.best-is ∙ w.better-best.ensures) ∙ v.2,
-        )
+        omega (arith, lt),
+        rw (w.best-is, w.better-best.ensures) (better_among seed a.weight.now a.seen.now a.order.now a.low c.loop-i.i a.len c.loop-i.best _ lt le refl (m ∙ w.if-startable.true) v.1),
+        chosen_yes p seed c.loop-i.best a.order.now c.loop-i.i a.len _ lt le refl _ (m ∙ w.if-startable.true) (w.best-is ∙ w.better-best.ensures) ∙ v.2,
+      )
       | else-startable w ↦ (
-          omega (arith, lt),
-          rw w.best-is v.1,
-          rw w.best-is (chosen_no p seed c.loop-i.best a.order.now c.loop-i.i a.len _ lt le refl (m ∙ w.if-startable.false) ∙ v.2),
-        )
+        omega (arith, lt),
+        rw w.best-is v.1,
+        rw w.best-is (chosen_no p seed c.loop-i.best a.order.now c.loop-i.i a.len _ lt le refl (m ∙ w.if-startable.false) ∙ v.2),
+      )
     ]
 
 pub returns : goal.returns
@@ -39,5 +39,8 @@ returns c =
     let a = c.args in
     let v = c.loop-i.invariant in
     let p = startable_by a.weight.now a.seen.now a.low in
-    let seed = seed_by a.marks.now a.weight.now a.reached.now in record { among = v.1; starts_at = chosen_starts a.marks.now a.weight.now a.seen.now a.reached.now a.low (take a.len a.order.now) c.loop-i.best
-          (sym v.2 ∙ chosen_end p seed c.loop-i.best a.order.now c.loop-i.i a.len (omega (arith, v.0, c.loop-i-test.false))) }
+    let seed = seed_by a.marks.now a.weight.now a.reached.now in record {
+      among = v.1;
+      starts_at = chosen_starts a.marks.now a.weight.now a.seen.now a.reached.now a.low (take a.len a.order.now) c.loop-i.best
+          (sym v.2 ∙ chosen_end p seed c.loop-i.best a.order.now c.loop-i.i a.len (omega (arith, v.0, c.loop-i-test.false)));
+    }

@@ -34,5 +34,8 @@ loop-q-preserved c =
 pub returns : goal.returns
 returns c =
     let a = c.args in
-    let v = c.loop-q.invariant in record { reached_len = v.3; noted = noted_all c.requires.0 _ _ c.entry_of-f.ensures c.entry_of.ensures a.reached.now c.loop-q.reached c.requires.1
-          (sym (noted_end a.to.now a.heft.now c.loop-q.q _ c.loop-q.reached c.loop-q-test.false) ∙ v.4) }
+    let v = c.loop-q.invariant in record {
+      reached_len = v.3;
+      noted = noted_all c.requires.0 _ _ c.entry_of-f.ensures c.entry_of.ensures a.reached.now c.loop-q.reached c.requires.1
+          (sym (noted_end a.to.now a.heft.now c.loop-q.q _ c.loop-q.reached c.loop-q-test.false) ∙ v.4);
+    }

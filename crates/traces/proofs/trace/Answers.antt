@@ -66,12 +66,16 @@ rotate-requires c =
     let l = c.loop-q in
     let g = l.invariant.4 b.graph b.so_far b.flows b.ready in
     let fits = room_for b.flows b.so_far x.likely x.low x.from x.start x.order.now l.seen l.reached l.order l.at l.n g in
-    let Small-one = small b.flows l.n g.block in record { sized = sized b.flows; seen_len = (c.mark.ensures.0, c.requires.seen_len.1); trace_at = record {
-          sized = search rules;
-          some_block = omega (arith, g.at);
-          within = omega (arith, fits);
-          below = below_more l.order l.at l.n (l.at + 1) (omega (arith, fits, l.invariant.2)) (omega (arith, Small-one)) l.invariant.3 (omega arith);
-        } }
+    let Small-one = small b.flows l.n g.block in record {
+      sized = sized b.flows;
+      seen_len = (c.mark.ensures.0, c.requires.seen_len.1);
+      trace_at = record {
+        sized = search rules;
+        some_block = omega (arith, g.at);
+        within = omega (arith, fits);
+        below = below_more l.order l.at l.n (l.at + 1) (omega (arith, fits, l.invariant.2)) (omega (arith, Small-one)) l.invariant.3 (omega arith);
+      };
+    }
 
 pub returns-in_default : goal.returns-in_default
 returns-in_default c =

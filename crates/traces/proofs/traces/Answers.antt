@@ -25,7 +25,9 @@ find-found-requires c =
     let o = c.order-plain in
     let e = c.find-entry in
     let m = c.none-seen in
-    let s = c.none-starts in record { finds = findable x.listed.now x.marks.now x.weight.now x.first.now x.count.now x.to.now x.heft.now x.n o.result o.ensures e.result e.ensures m.result s.result (replicate blocks 0) (replicate blocks 0) m.ensures.1 s.ensures.1 c.requires; roomy = (
+    let s = c.none-starts in record {
+      finds = findable x.listed.now x.marks.now x.weight.now x.first.now x.count.now x.to.now x.heft.now x.n o.result o.ensures e.result e.ensures m.result s.result (replicate blocks 0) (replicate blocks 0) m.ensures.1 s.ensures.1 c.requires;
+      roomy = (
         record {
           seen_sized = m.ensures.0;
           starts_sized = s.ensures.0;
@@ -35,7 +37,8 @@ find-found-requires c =
         },
         search rules,
         omega (arith, plain_few x.listed.now x.marks.now x.weight.now x.first.now x.count.now x.to.now x.heft.now x.n o.result o.ensures e.result e.ensures c.requires),
-      ) }
+      );
+    }
 
 pub connect-requires : goal.connect-requires
 connect-requires c =

@@ -1,5 +1,5 @@
 -- `walks::unreached` meets its contract: while it runs, those of the first i listed blocks that are not marked stand behind the order.
-use Prim.Native.Nat.{◌-◌, ◌<◌}
+use Prim.Native.Nat.{◌<◌}
 use native.Mathlib.Omega.{arith}
 use mathlib.Core.Path.{◌≡◌, sym, ap, ◌∙◌, subst}
 use mathlib.Core.Bool.{not}

@@ -8,7 +8,6 @@ use Rattle.stack.specs.Frames.{frame}
 use Rattle.stack.proofs.FrameLaws.{frames_none}
 use Rattle.walks.specs.Walking.{Started}
 use Rattle.walks.proofs.VisitLaws.{begins_low, begins_started, visit_marked, visit_walks}
-use borrow.Author.Rules.{rules}
 use Rattle.walks.proofs.visit.Goals as goal
 
 pub is_marked-requires : goal.is_marked-requires
@@ -27,12 +26,15 @@ walk-requires c =
     let m = c.mark in
     let p = c.put-n in
     let top = p.ensures.holds ∙ ap (λ (st : List Frame). frame x.root 0 ∷ st) (frames_none _ _ 0 (omega arith)) in
-    let new = sym c.is_marked.ensures ∙ c.if-is_marked.false in record { started = subst (Started x.first.now x.count.now x.to.now) (sym top) (begins_started _ _ _ _ c.requires.begins); seen_len = (
+    let new = sym c.is_marked.ensures ∙ c.if-is_marked.false in record {
+      started = subst (Started x.first.now x.count.now x.to.now) (sym top) (begins_started _ _ _ _ c.requires.begins);
+      seen_len = (
         m.ensures.0,
         c.requires.counts.done_sized,
         omega (arith, p.ensures.more, c.requires.counts.counted, size_more x.seen.now _ x.root (begins_low _ _ _ _ c.requires.begins) new m.ensures.1),
         p.ensures.roomy,
-      ) }
+      );
+    }
 
 pub returns : goal.returns
 returns c =

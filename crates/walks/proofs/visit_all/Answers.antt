@@ -1,5 +1,5 @@
 -- `walks::visit_all` meets its contract: while it runs, the tables show the walk from the first i listed blocks.
-use Prim.Native.Nat.{◌-◌, ◌<◌}
+use Prim.Native.Nat.{◌<◌}
 use native.Mathlib.Omega.{arith}
 use mathlib.Core.Path.{◌≡◌, subst}
 use lib.ListN.{length}
