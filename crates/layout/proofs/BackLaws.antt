@@ -20,13 +20,16 @@ use Rattle.records.proofs.TableLaws.{up_to_length}
 use Rattle.writer.specs.Files.{Writable}
 use Rattle.writer.proofs.WriteLaws.{only_blocks_lem}
 
-module _ (s d : List ℕ) (b : Blocks) (a : Arms) (r : Reading) (h : Reads s b a r) where
-  pub back_refused : (r.verdict.number ≡ 0 → ⊥) → (refusal r.verdict.number r.verdict.place 0 ≡ (write_back s d).answer) × (d ≡ (write_back s d).lent)
+module _ (s d : List ℕ) where
+  pub refused_answer : ((verdict s).number ≡ 0 → ⊥) → (write_back s d).answer ≡ refusal (verdict s).number (verdict s).place 0
   unfolding write_back refused
-  back_refused z =
-      let n : (verdict s).number ≡ 0 → ⊥ = λ q. z (ap (λ (v : Verdict). v.number) h.verdict_is ∙ q) in
-      (simp (h.verdict_is, ne_eqb _ _ n), simp (ne_eqb _ _ n))
+  refused_answer n = simp (ne_eqb _ _ n)
 
+  pub refused_lent : ((verdict s).number ≡ 0 → ⊥) → (write_back s d).lent ≡ d
+  unfolding write_back refused
+  refused_lent n = simp (ne_eqb _ _ n)
+
+module _ (s d : List ℕ) (b : Blocks) (a : Arms) (r : Reading) (h : Reads s b a r) where
   module _ (z : r.verdict.number ≡ 0) where
     -- the tables without the one that says where blocks stand
     abbrev only : Blocks

@@ -59,13 +59,16 @@ unfolding outcome_by layout_of laid_out laid layout split_of readied
 asked_laid true reorder g d e = rw e
 asked_laid false reorder g d e = refl
 
-module _ (s d : List ℕ) (on reorder : Bool) (b : Blocks) (a : Arms) (r : Reading) (h : Reads s b a r) where
-  pub file_refused : (r.verdict.number ≡ 0 → ⊥) → (refusal r.verdict.number r.verdict.place 0 ≡ (layout_blocks on reorder s d).answer) × (d ≡ (layout_blocks on reorder s d).lent)
+module _ (s d : List ℕ) (on reorder : Bool) where
+  pub refused_answer : ((verdict s).number ≡ 0 → ⊥) → (layout_blocks on reorder s d).answer ≡ refusal (verdict s).number (verdict s).place 0
   unfolding layout_blocks refused
-  file_refused z =
-      let n : (verdict s).number ≡ 0 → ⊥ = λ q. z (ap (λ (v : Verdict). v.number) h.verdict_is ∙ q) in
-      (simp (h.verdict_is, ne_eqb _ _ n), simp (ne_eqb _ _ n))
+  refused_answer n = simp (ne_eqb _ _ n)
 
+  pub refused_lent : ((verdict s).number ≡ 0 → ⊥) → (layout_blocks on reorder s d).lent ≡ d
+  unfolding layout_blocks refused
+  refused_lent n = simp (ne_eqb _ _ n)
+
+module _ (s d : List ℕ) (on reorder : Bool) (b : Blocks) (a : Arms) (r : Reading) (h : Reads s b a r) where
   module _ (z : r.verdict.number ≡ 0) where
     abbrev t : Graph
     t = record { blocks = r.blocks; arms = r.arms; b = b; a = a }

@@ -29,6 +29,7 @@ fn split_place<'a>(place: &'a [u16; BLOCKS], order: &'a [u16; BLOCKS], split: us
 }
 
 // The order of the n listed blocks, before it is split: their traces, or the plain order.
+#[tactic(auto, using(crate::proofs::OrderLaws::by_traces))]
 fn ordered<'a>(
     reorder: bool,
     listed: &'a [u16; BLOCKS],

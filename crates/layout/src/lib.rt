@@ -86,6 +86,7 @@ pub fn forwarded<'a>(
 }
 
 // What `layout_write_back` answers, with tables of zeros to read into.
+#[tactic(auto, using(crate::proofs::BackLaws::refused_answer, crate::proofs::BackLaws::refused_lent))]
 fn write_back(
     input: &[u8],
     place: &mut [u16; BLOCKS],
@@ -282,6 +283,7 @@ fn lay_out<'a>(
 }
 
 // What `layout_blocks` answers, with tables of zeros to read into.
+#[tactic(auto, using(crate::proofs::FileLaws::refused_answer, crate::proofs::FileLaws::refused_lent))]
 fn lay_file(
     input: &[u8],
     on: bool,

