@@ -7,7 +7,8 @@ another of its file gets `_lem` behind it, as a lemma with its function's name d
 
 Only names that a file of specs/ or proofs/ here defines or binds are turned: wherever they stand alone; and behind a dot
 where they are a field of a record of ours or the path is a module's. Names that Rattle makes, names of its library and all
-names of src/ stay. In pages only what stands between backticks is turned. Must-fail edits are turned whole.
+names of src/ stay. In pages only what stands between backticks is turned. Must-fail edits are turned whole; what port.py had turned
+in the sources before is in neither, and was brought over by hand.
 """
 import collections
 import glob
