@@ -1,12 +1,9 @@
 -- `connect::leads` meets its contract, test by test.
-use Prim.Native.Nat.{◌-◌, ◌<◌}
+use Prim.Native.Nat.{◌-◌}
 use native.Mathlib.Omega.{arith}
 use mathlib.Core.Path.{refl, sym, ap, ap₂, ◌∙◌}
-use lib.ListN.{get_or}
 use borrow.Author.Rules.{rules}
-use Rattle.limits.specs.Limits.{blocks}
 use Rattle.rules.specs.Graph.{is_cold}
-use Rattle.connect.specs.Joined.{begin_of}
 use Rattle.connect.proofs.LinkLaws.{leads_nowhere, leads_used, leads_on, headed_one}
 use Rattle.connect.proofs.leads.Goals as goal
 

@@ -1,8 +1,6 @@
 -- `listing::has_mate` meets its contract: while it runs, none of the first i listed blocks is one.
-use Prim.Native.Nat.{◌-◌}
 use native.Mathlib.Omega.{arith}
 use mathlib.Core.Path.{◌≡◌, sym, ap, ◌∙◌}
-use mathlib.Core.Bool.{false}
 use Rattle.listing.specs.Loops.{mate_to}
 use Rattle.listing.proofs.LoopLaws.{mate_none, mate_other, mate_found}
 use borrow.Author.Rules.{rules}

@@ -1,5 +1,4 @@
 -- `rotate::exits_at` meets its contract: the best so far and what is left have the best of all.
-use Prim.Native.Nat.{◌-◌}
 use native.Mathlib.Omega.{arith}
 use mathlib.Core.Path.{sym, ◌∙◌}
 use Rattle.records.specs.declared.Arms.{Arms}
