@@ -9,12 +9,11 @@ use mathlib.Core.List.{List, ◌++◌}
 use lib.Dec.{eqb, ltb}
 use lib.ListN.{length, drop}
 use borrow.Author.Tests.{eqb-true, eqb-false}
-use Rattle.limits.specs.Limits.{numbers, blocks}
 use Rattle.rules.specs.declared.Answer.{Answer}
 use Rattle.rules.specs.Graph.{Graph}
 use Rattle.rules.specs.Records.{records, graph_of}
 use Rattle.rules.specs.Refusals.{verdict}
-use Rattle.rules.specs.Exits.{Place, bridges}
+use Rattle.rules.specs.Exits.{Place}
 use Rattle.rules.specs.Laid.{layout, split_of, laid_bytes}
 use Rattle.rules.specs.Outcome.{Outcome, refusal, refused, laid, layout_of, layout_blocks}
 use Rattle.rules.proofs.Demands.{Demands, accepted_demands}

@@ -9,7 +9,7 @@ use lib.Dec.{eqb}
 use lib.ListN.{length, get_or, set, replicate, length-set}
 use lib.Seq.{set-get_or}
 use borrow.Author.Tests.{eq-eqb, eqb-true}
-use Rattle.limits.specs.Limits.{blocks, arms}
+use Rattle.limits.specs.Limits.{blocks}
 use Rattle.lists.proofs.Tables.{set_get, zero_get}
 use Rattle.rules.specs.Graph as graph
 use Rattle.rules.specs.Graph.{numbers_of}

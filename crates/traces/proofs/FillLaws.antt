@@ -1,5 +1,5 @@
 -- A round goes on for as long as the start rule finds a block, and the rounds come in turn. Assumes nothing.
-use Prim.Native.Nat.{ℕ, zero, suc, ◌+◌, ◌≤◌, ◌<◌}
+use Prim.Native.Nat.{ℕ, zero, suc, ◌≤◌, ◌<◌}
 use native.Mathlib.Omega.{arith}
 use mathlib.Core.Path.{◌≡◌, refl, sym, ap, ◌∙◌, subst}
 use mathlib.Core.Bool.{false, not}
@@ -10,9 +10,9 @@ use lib.ListN.{length, get_or, take, length-map}
 use lib.Seq.{take-suc}
 use Rattle.marks.specs.Sets.{member}
 use Rattle.rules.specs.Lists.{foldl, mem, concat}
-use Rattle.rules.specs.Graph.{Block, Graph, numbers_of}
+use Rattle.rules.specs.Graph.{Block, numbers_of}
 use Rattle.rules.specs.PlainOrder.{order}
-use Rattle.rules.specs.Traces.{rounds, Seed, next_seed, Traced, no_traces, trace_from, fill}
+use Rattle.rules.specs.Traces.{Seed, next_seed, Traced, no_traces, trace_from, fill}
 use Rattle.rules.proofs.Membership.{In}
 use Rattle.rules.proofs.Counting.{Once, tally, tally_len, count, In→count, count→In}
 use Rattle.rules.proofs.Wholeness.{Whole}

@@ -1,8 +1,7 @@
 -- `along::along` meets its contract: the choice among the arms left, from the best so far, stays that among all.
-use Prim.Native.Nat.{ℕ, ◌-◌}
+use Prim.Native.Nat.{ℕ}
 use native.Mathlib.Omega.{arith}
 use mathlib.Core.Path.{refl, sym, ap, ◌∙◌}
-use mathlib.Core.Logic.{⊎_elim}
 use Rattle.limits.specs.Limits.{arms}
 use Rattle.rules.specs.Graph.{is_cold}
 use Rattle.along.specs.Choosing.{fits_by}

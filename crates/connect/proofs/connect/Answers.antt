@@ -1,14 +1,9 @@
 -- `connect::connect` meets its contract: what is laid before each turn, and what is left, come to what the rules lay.
-use Prim.Native.Nat.{ℕ, ◌-◌}
+use Prim.Native.Nat.{ℕ}
 use native.Mathlib.Omega.{arith}
-use mathlib.Core.Path.{◌≡◌, sym, ◌∙◌}
-use mathlib.Core.Bool.{false}
-use mathlib.Core.Logic.{⊎_elim}
+use mathlib.Core.Path.{sym, ◌∙◌}
 use lib.ListN.{length-replicate}
-use borrow.Author.Tests.{not-true, not-false}
 use Rattle.limits.specs.Limits.{blocks}
-use Rattle.marks.specs.Sets.{member}
-use Rattle.connect.specs.Following.{Begins}
 use Rattle.connect.proofs.TraceLaws.{ends_many}
 use Rattle.connect.proofs.JoinLaws.{turn_first, turn_used, turn_begins, turn_laid, turns_over}
 use Rattle.connect.proofs.connect.Goals as goal

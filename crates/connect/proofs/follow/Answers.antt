@@ -1,8 +1,5 @@
 -- `connect::follow` meets its contract: what the rules lay from the next trace on is what they lay from the first on.
-use Prim.Native.Nat.{◌-◌, ◌≤◌, ◌<◌}
 use native.Mathlib.Omega.{arith}
-use Rattle.limits.specs.Limits.{blocks}
-use Rattle.connect.specs.Following.{Begins}
 use Rattle.connect.proofs.FollowLaws.{few, some_blocks, within, found_by, fewer_left, room_for, along_start, along_stop, along_next}
 use Rattle.connect.proofs.follow.Goals as goal
 

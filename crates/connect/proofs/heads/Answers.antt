@@ -1,10 +1,8 @@
 -- `connect::heads` meets its contract: the table has the traces so far.
-use Prim.Native.Nat.{ℕ, ◌-◌, ◌<◌}
+use Prim.Native.Nat.{ℕ}
 use native.Mathlib.Omega.{arith}
 use mathlib.Core.Path.{◌≡◌, ap, ◌∙◌, subst}
 use lib.ListN.{get_or}
-use Rattle.limits.specs.Limits.{blocks}
-use Rattle.connect.specs.Joined.{begin_of}
 use Rattle.connect.proofs.TraceLaws.{ends_many}
 use Rattle.connect.proofs.HeadLaws.{Heading, no_heads, begin_low, first_low, one_more, all_heads}
 use Rattle.connect.proofs.heads.Goals as goal

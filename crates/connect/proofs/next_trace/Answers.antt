@@ -1,5 +1,4 @@
 -- `connect::next_trace` meets its contract: the best among the arms left, from the best so far, stays that among all.
-use Prim.Native.Nat.{◌-◌}
 use native.Mathlib.Omega.{arith}
 use mathlib.Core.Path.{refl, sym, ap, ◌∙◌}
 use Rattle.rules.specs.Graph.{is_cold}

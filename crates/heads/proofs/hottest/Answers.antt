@@ -1,5 +1,4 @@
 -- `heads::hottest` meets its contract: while it runs, the hottest of the first i listed blocks is known.
-use Prim.Native.Nat.{◌-◌}
 use native.Mathlib.Omega.{arith}
 use mathlib.Core.Path.{◌≡◌, ap, ◌∙◌}
 use Rattle.heads.specs.Heading.{hot_to}

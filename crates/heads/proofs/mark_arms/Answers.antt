@@ -1,5 +1,5 @@
 -- `heads::mark_arms` meets its contract: while it runs, what the first j arms go back to is marked.
-use Prim.Native.Nat.{ℕ, ◌-◌}
+use Prim.Native.Nat.{ℕ}
 use native.Mathlib.Omega.{arith}
 use mathlib.Core.Path.{◌≡◌, sym, ap, ◌∙◌}
 use mathlib.Core.Bool.{◌||◌}

@@ -1,5 +1,5 @@
 -- `heads::mark_back` meets its contract: while it runs, what the arms of the first i listed blocks enter from behind is marked.
-use Prim.Native.Nat.{ℕ, ◌+◌, ◌-◌, ◌<◌}
+use Prim.Native.Nat.{ℕ, ◌+◌, ◌<◌}
 use native.Mathlib.Omega.{arith}
 use mathlib.Core.Path.{◌≡◌, sym, ap, ◌∙◌, subst}
 use lib.ListN.{get_or}

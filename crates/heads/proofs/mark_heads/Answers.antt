@@ -1,5 +1,4 @@
 -- `heads::mark_heads` meets its contract: while it runs, the heads of the places 1 to i are marked.
-use Prim.Native.Nat.{◌-◌}
 use native.Mathlib.Omega.{arith}
 use mathlib.Core.Path.{sym, ◌∙◌}
 use Rattle.heads.specs.Heading.{heads}

@@ -1,5 +1,5 @@
 -- `laid::put_places` meets its contract: while it runs, the front of the room has the places so far.
-use Prim.Native.Nat.{◌+◌, ◌-◌, ◌*◌, ◌≤◌}
+use Prim.Native.Nat.{◌-◌, ◌*◌, ◌≤◌}
 use mathlib.Core.Path.{◌≡◌}
 use mathlib.Core.List.{◌++◌}
 use lib.ListN.{length, drop}

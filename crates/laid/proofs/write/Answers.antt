@@ -2,8 +2,6 @@
 use native.Mathlib.Omega.{arith}
 use mathlib.Core.Path.{ap, ◌∙◌}
 use lib.ListN.{length}
-use Rattle.records.specs.declared.Blocks.{Blocks}
-use Rattle.records.specs.declared.Arms.{Arms}
 use Rattle.records.specs.Tables.{only_blocks, arm_tables}
 use Rattle.writer.proofs.WriteLaws.{only_listed_lem}
 use Rattle.laid.proofs.RecordLaws.{arms_size, both_parts}

@@ -1,5 +1,5 @@
 -- `listing::looped` meets its contract: while it runs, the first i listed blocks with another of their piece are marked.
-use Prim.Native.Nat.{ℕ, ◌-◌}
+use Prim.Native.Nat.{ℕ}
 use native.Mathlib.Omega.{arith}
 use mathlib.Core.Path.{◌≡◌, sym, ◌∙◌, subst}
 use Rattle.listing.specs.Loops.{mate_to}

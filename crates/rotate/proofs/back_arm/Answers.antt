@@ -1,8 +1,7 @@
 -- `rotate::back_arm` meets its contract: while it runs, `best` is the last of the heaviest so far.
-use Prim.Native.Nat.{◌+◌, ◌-◌, ◌≤◌}
+use Prim.Native.Nat.{◌+◌, ◌≤◌}
 use native.Mathlib.Omega.{arith}
 use mathlib.Core.Path.{refl, sym, ◌∙◌}
-use mathlib.Core.Logic.{⊎_elim}
 use Rattle.limits.specs.Limits.{arms}
 use Rattle.records.specs.declared.Arms.{Arms}
 use Rattle.records.specs.Tables.{arm_tables}

@@ -1,5 +1,4 @@
 -- `rotate::best_exit` meets its contract: the best so far and what is left have the best of all.
-use Prim.Native.Nat.{◌-◌}
 use native.Mathlib.Omega.{arith}
 use mathlib.Core.Path.{◌≡◌, refl, sym, ap, ◌∙◌}
 use mathlib.Core.Option.{none}

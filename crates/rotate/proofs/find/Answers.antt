@@ -1,5 +1,5 @@
 -- `rotate::find` meets its contract: while it runs, the block stands at no place before.
-use Prim.Native.Nat.{ℕ, ◌-◌}
+use Prim.Native.Nat.{ℕ}
 use native.Mathlib.Omega.{arith}
 use mathlib.Core.Path.{◌≡◌, subst}
 use Rattle.rotate.proofs.PlaceLaws.{Seek, seek_start, seek_hit, seek_on, seek_none}

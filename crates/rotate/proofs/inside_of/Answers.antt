@@ -1,5 +1,5 @@
 -- `rotate::inside_of` meets its contract: while it runs, the blocks before are in the set.
-use Prim.Native.Nat.{ℕ, ◌-◌}
+use Prim.Native.Nat.{ℕ}
 use native.Mathlib.Omega.{arith}
 use mathlib.Core.Path.{◌≡◌, subst}
 use lib.Seq.{slice}

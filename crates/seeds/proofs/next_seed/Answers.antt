@@ -1,8 +1,7 @@
 -- `seeds::next_seed` meets its contract: the start among the blocks left, from the best so far, stays that among all.
-use Prim.Native.Nat.{◌-◌, ◌≤◌}
+use Prim.Native.Nat.{◌≤◌}
 use native.Mathlib.Omega.{arith}
 use mathlib.Core.Path.{refl, sym, ◌∙◌}
-use mathlib.Core.Logic.{⊎_elim}
 use lib.ListN.{length, take}
 use Rattle.seeds.specs.Starts.{seed_by, startable_by}
 use Rattle.seeds.proofs.StartLaws.{chosen_yes, chosen_no, chosen_end, chosen_starts, better_among}

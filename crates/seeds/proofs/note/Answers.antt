@@ -1,9 +1,8 @@
 -- `seeds::note` meets its contract: noting the arms left, in the table so far, stays noting all.
-use Prim.Native.Nat.{◌-◌}
 use native.Mathlib.Omega.{arith}
 use mathlib.Core.Path.{refl, sym, ap, ◌∙◌}
 use lib.ListN.{length}
-use Rattle.seeds.proofs.ReachedLaws.{raised, raised_length, noted, noted_next, noted_end, goes_in, noted_all}
+use Rattle.seeds.proofs.ReachedLaws.{raised, raised_length, noted_next, noted_end, goes_in, noted_all}
 use Rattle.seeds.proofs.note.Goals as goal
 
 pub overflow_add-end : goal.overflow_add-end

@@ -1,5 +1,5 @@
 -- `traces::fill` meets its contract: while it runs, so much of the round is done in every graph that has the tables.
-use Prim.Native.Nat.{◌+◌, ◌-◌}
+use Prim.Native.Nat.{◌+◌}
 use native.Mathlib.Omega.{arith}
 use lib.ListN.{take}
 use Rattle.flow.proofs.LentLaws.{sized}

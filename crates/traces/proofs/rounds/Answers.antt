@@ -1,5 +1,5 @@
 -- `traces::rounds` meets its contract: while it runs, the first i rounds are done in every graph that has the tables.
-use Prim.Native.Nat.{◌+◌, ◌-◌, ◌<◌}
+use Prim.Native.Nat.{◌+◌, ◌<◌}
 use native.Mathlib.Omega.{arith}
 use lib.ListN.{length, take}
 use Rattle.rules.specs.Traces.{rounds}

@@ -1,5 +1,5 @@
 -- `traces::trace` meets its contract: while it runs, the trace is on its way in every graph that has the tables.
-use Prim.Native.Nat.{◌+◌, ◌-◌}
+use Prim.Native.Nat.{◌+◌}
 use native.Mathlib.Omega.{arith}
 use mathlib.Core.Path.{refl}
 use Rattle.flow.proofs.LentLaws.{sized, small}

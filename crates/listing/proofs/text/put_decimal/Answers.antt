@@ -1,5 +1,5 @@
 -- `listing::text::put_decimal` meets its contract: while it runs, the digits from place i on are put.
-use Prim.Native.Nat.{ℕ, ◌+◌, ◌-◌}
+use Prim.Native.Nat.{ℕ, ◌+◌}
 use native.Mathlib.Omega.{arith}
 use mathlib.Core.Path.{refl, ap}
 use Rattle.listing.proofs.DigitLaws.{tens}

@@ -3,7 +3,6 @@ use Prim.Native.Nat.{ℕ}
 use native.Mathlib.Omega.{arith}
 use mathlib.Core.Path.{◌≡◌, ap}
 use mathlib.Core.Bool.{cond}
-use mathlib.Core.Logic.{⊎_elim}
 use mathlib.Core.List.{[], ◌∷◌}
 use Rattle.rules.specs.Listing.{space, letter}
 use Rattle.listing.proofs.PutLaws.{put_then, put_same}
