@@ -2,90 +2,54 @@
 // side of the split, if the arm is heavy enough by itself and for its block.
 #![tactic(auto)]
 
-ghost use Rattle.std.specs.Prelude.{◌≡◌, ◌+◌, ◌≤◌, ◌<◌, length, get_or};
-ghost use Rattle.limits.specs.Limits.{blocks, arms};
+ghost use Rattle.std.specs.Prelude.{◌≡◌, ℕ, ◌≤◌, ◌<◌, Some};
+ghost use Rattle.limits.specs.Limits.{arms};
 ghost use Rattle.rules.specs.Weights.{scale};
-ghost use Rattle.marks.specs.Sets.{room};
-ghost use Rattle.flow.specs.Lent.{Sized};
-ghost use Rattle.along.specs.Choosing.{fits_by, heavier, Within, GoesOn};
+ghost use Rattle.records.specs.Tables.{ArmsWithin, Has};
+ghost use Rattle.along.specs.Choosing.{fits_by, heavier, GoesOn};
 
-use flow::Choice;
-use limits::{ARMS, BLOCKS};
+use limits::ARMS;
+use marks::Set;
+use records::Graph;
 
-// Whether a trace may go on by arm q of a block that is cold or not and weighs `whole`.
-fn fits<'a>(
-    marks: &'a [u8; BLOCKS],
-    to: &'a [u16; ARMS],
-    heft: &'a [u64; ARMS],
-    seen: &'a [u8; marks::ROOM],
-    cold: bool,
-    whole: u64,
-    likely: u64,
-    low: u64,
-    q: usize,
-) -> bool
-    requires marks_len { (length marks.now ≡ blocks) × (length seen.now ≡ room) }
-    requires to_len { (length to.now ≡ arms) × (length heft.now ≡ arms) × (q < arms) × (likely ≤ scale) }
-    ensures { result ≡ fits_by marks.now to.now heft.now seen.now cold whole likely low q }
+// Whether a trace may go on from block n by arm q.
+#[tactic(auto, unfolding(crate::specs::Choosing::fits_by))]
+fn fits(g: &Graph, seen: &Set, likely: u64, low: u64, n: u16, q: usize) -> bool
+    requires { (q < arms) × (likely ≤ scale) }
+    ensures { result ≡ fits_by g.now seen.now likely low n q }
 {
-    let n = to[q];
-    if marks::is_marked(seen, n) {
-        return false;
-    }
-    let there = cold::is_cold(lists::byte_of(marks, n));
-    if cold != there {
-        return false;
-    }
-    let w = heft[q];
-    if w < low {
-        return false;
-    }
-    weights::at_least(w, whole, likely)
+    let to = g.a.to[q];
+    let w = g.a.weight[q];
+    !marks::is_marked(seen, to)
+        && cold::is_cold(g.b.marks_of(n)) == cold::is_cold(g.b.marks_of(to))
+        && low <= w
+        && weights::at_least(w, g.b.weight_of(n), likely)
 }
 
 // The heavier of the best arm so far and arm q, which comes later.
-fn better(heft: &[u64; ARMS], best: Choice, q: usize) -> Choice
-    requires { (length heft.now ≡ arms) × Within 0 arms best × (q < arms) }
-    ensures { result ≡ heavier heft.now best q }
+#[tactic(auto, unfolding(crate::specs::Choosing::heavier))]
+fn better(weight: &[u64; ARMS], best: Option<usize>, q: usize) -> Option<usize>
+    requires { ((x : ℕ) → best ≡ Some x → x < arms) × (q < arms) }
+    ensures { result ≡ heavier weight.now best q }
 {
-    let Choice::Arm(x) = best else {
-        return Choice::Arm(q);
-    };
-    if heft[x] < heft[q] {
-        return Choice::Arm(q);
+    match best {
+        Some(x) if weight[q] <= weight[x] => best,
+        _ => Some(q),
     }
-    best
 }
 
 // The arm by which a trace goes on from block n, if any.
-pub fn along<'a>(
-    marks: &'a [u8; BLOCKS],
-    weight: &'a [u64; BLOCKS],
-    first: &'a [u16; BLOCKS],
-    count: &'a [u16; BLOCKS],
-    to: &'a [u16; ARMS],
-    heft: &'a [u64; ARMS],
-    seen: &'a [u8; marks::ROOM],
-    likely: u64,
-    low: u64,
-    n: u16,
-) -> Choice
-    requires sized { Sized marks.now weight.now first.now count.now to.now heft.now }
-    requires seen_len { (length seen.now ≡ room) × (likely ≤ scale) }
-    ensures within { Within (get_or first.now n 0) (get_or first.now n 0 + get_or count.now n 0) result }
-    ensures goes_on { GoesOn marks.now weight.now first.now count.now to.now heft.now seen.now likely low n result }
+pub fn along(g: &Graph, seen: &Set, likely: u64, low: u64, n: u16) -> Option<usize>
+    requires { ArmsWithin g.now.a arms × (likely ≤ scale) }
+    ensures has { (q : ℕ) → result ≡ Some q → Has g.now.a n q }
+    ensures goes_on { GoesOn g.now seen.now likely low n result }
 {
-    let cold = cold::is_cold(lists::byte_of(marks, n));
-    let whole = lists::weight_of(weight, n);
-    let f = lists::entry_of(first, n);
-    let end = f + lists::entry_of(count, n);
-    let mut best = Choice::Nothing;
-    let mut q = f;
-    while q < end {
-        if fits(marks, to, heft, seen, cold, whole, likely, low, q) {
-            best = better(heft, best, q);
+    let first = g.a.first_of(n);
+    let mut best = None;
+    for q in first..first + g.a.count_of(n) {
+        if fits(g, seen, likely, low, n, q) {
+            best = better(&g.a.weight, best, q);
         }
-        q = q + 1;
     }
     best
 }

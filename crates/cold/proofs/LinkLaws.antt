@@ -1,26 +1,27 @@
 -- The ways into a block of the graph, by the counts of its tables. Assumes nothing.
-use Prim.Native.Nat.{ℕ, zero, suc, ◌+◌, ◌<◌}
+use Prim.Native.Nat.{ℕ, zero, suc, ◌+◌, ◌≤◌, ◌<◌}
 use native.Mathlib.Omega.{arith}
 use mathlib.Core.Path.{◌≡◌, refl, sym, ap, ◌∙◌, subst}
 use mathlib.Core.Bool.{Bool, true, false, cond}
-use mathlib.Core.List.{List, [], ◌∷◌, ◌++◌, map}
+use mathlib.Core.List.{List, ◌∷◌, map}
 use lib.Dec.{T}
-use lib.ListN.{get_or}
+use lib.ListN.{length, get_or, take, drop}
+use lib.Seq.{drop-cons}
 use Rattle.limits.specs.Limits.{numbers, most_arms}
 use Rattle.lists.proofs.Choices.{split_lt, split_eq}
 use Rattle.rules.specs.Lists.{keep, mem}
 use Rattle.rules.specs.Graph as graph
 use Rattle.rules.specs.Graph.{is_cold, numbers_of, targets}
 use Rattle.rules.specs.Spread.{ways_in}
-use Rattle.rules.proofs.Membership.{In, In-map, map-In, →keep, keep→, mem→, →mem, map_append}
+use Rattle.rules.proofs.Membership.{In, In-map, map-In, →keep, keep→, mem→, →mem}
 use Rattle.rules.proofs.Counting.{In→count, count→In}
 use Rattle.rules.proofs.Wholeness.{Whole, block_in}
 use Rattle.records.specs.declared.Graph.{Graph}
 use Rattle.records.specs.declared.Arms.{Arms}
+use Rattle.records.specs.declared.Blocks.{Blocks}
 use Rattle.records.specs.Tables.{arm_at, arms_from, leaves, block_at, tabled, Stands}
-use Rattle.records.proofs.TableLaws.{arms_more}
 use Rattle.records.proofs.StandLaws.{listed_in, in_listed, in_tables, find_listed}
-use Rattle.cold.specs.Ways.{Links, links, toward, outs, at, arms_to, ins, cold_sum, cold_ins, Linked}
+use Rattle.cold.specs.Ways.{Links, links_of, outs, at, arms_to, ins, cold_sum, cold_ins, Linked}
 use Rattle.cold.proofs.WayLaws.{cold_part_lem}
 
 -- ---- sums over the listed blocks
@@ -66,20 +67,18 @@ module _ (w : Links) where
             (λ d. absurd (let z : true ≡ false = sym (f p (omega arith) (omega (arith, d))) ∙ q in subst T z tt))
 
 -- ---- the graph's tables
-abbrev pub links_of : Graph → Links
-links_of t = links t.b.listed t.a.first t.a.count t.a.to t.blocks
+arms_to_slice : (a : Arms) (c f : ℕ) → f + c ≤ length a.to → map (λ (x : graph.Arm). x.to) (arms_from a f c) ≡ take c (drop f a.to)
+unfolding arms_from arm_at
+arms_to_slice a zero f h = refl
+arms_to_slice a (suc c) f h =
+    ap (λ (l : List ℕ). get_or a.to f 0 ∷ l) (arms_to_slice a c (suc f) (omega (arith, h))) ∙ sym (ap (take (suc c)) (drop-cons a.to f 0 (omega (arith, h))))
 
-toward_arms : (a : Arms) (f c : ℕ) → map (λ (x : graph.Arm). x.to) (arms_from a f c) ≡ toward a.to f c
-unfolding toward arms_from arm_at
-toward_arms a f zero = refl
-toward_arms a f (suc c) =
-    ap (map (λ (x : graph.Arm). x.to)) (arms_more a c f)
-    ∙ map_append (λ (x : graph.Arm). x.to) (arms_from a f c) (arm_at a (f + c) ∷ [])
-    ∙ ap (λ (l : List ℕ). l ++ (get_or a.to (f + c) 0 ∷ [])) (toward_arms a f c)
-
-pub targets_are : (t : Graph) (n : ℕ) → targets (block_at t.b t.a n) ≡ outs (links_of t) n
+targets_slice : (b : Blocks) (a : Arms) (n : ℕ) → get_or a.first n 0 + get_or a.count n 0 ≤ length a.to → targets (block_at b a n) ≡ outs a n
 unfolding targets block_at leaves outs
-targets_are t n = toward_arms t.a (get_or t.a.first n 0) (get_or t.a.count n 0)
+targets_slice b a n h = arms_to_slice a (get_or a.count n 0) (get_or a.first n 0) h
+
+pub targets_are : (t : Graph) → Linked (links_of t) → (n : ℕ) → targets (block_at t.b t.a n) ≡ outs t.a n
+targets_are t h n = targets_slice t.b t.a n (omega (arith, h.fits n, h.sized))
 
 module _ (t : Graph) where
   -- the block at place i
@@ -103,33 +102,34 @@ module _ (t : Graph) where
   pub linked : Stands numbers most_arms t (tabled t) → Whole (tabled t) → Linked (links_of t)
   linked s whole =
       record {
-        listed = s.blocks_sized.listed;
-        first = s.arms_sized.first;
-        count = s.arms_sized.count;
+        sized = s.arms_sized.to;
         few = s.few;
         below = λ i l. omega (arith, s.below i l);
         once =
             λ i j l u e. let q : suc i ≡ suc j = sym (s.back i l) ∙ ap (λ (k : ℕ). get_or t.b.place k 0) e ∙ s.back j u in omega (arith, q);
         fits = s.fits;
         goes =
-            λ i l k o. let r = place_of k (whole _ (block_at_lem i l) k (subst (In k) (sym (targets_are t (at (links_of t) i))) o)) in
+            λ i l k o.
+            let b = at (links_of t) i in
+            let e = targets_slice t.b t.a b (omega (arith, s.fits b, s.arms_sized.to)) in
+            let r = place_of k (whole _ (block_at_lem i l) k (subst (In k) (sym e) o)) in
             omega (arith, s.below r.0 r.1, r.2);
       }
 
   -- ---- its ways in
-  pub way_in : (k j : ℕ) → j < t.blocks → 0 < arms_to (links_of t) k (at (links_of t) j) → In (at (links_of t) j) (ways_in (tabled t) k)
+  pub way_in : Linked (links_of t) → (k j : ℕ) → j < t.blocks → 0 < arms_to (links_of t) k (at (links_of t) j) → In (at (links_of t) j) (ways_in (tabled t) k)
   unfolding ways_in arms_to block_at
-  way_in k j l a =
+  way_in h k j l a =
       let b = at (links_of t) j in
-      let i : In k (targets (block_at t.b t.a b)) = subst (In k) (sym (targets_are t b)) (count→In k (outs (links_of t) b) a) in
+      let i : In k (targets (block_at t.b t.a b)) = subst (In k) (sym (targets_are t h b)) (count→In k (outs t.a b) a) in
       In-map (λ (x : graph.Block). x.number) (keep (λ (x : graph.Block). mem k (targets x)) (tabled t)) (block_at t.b t.a b)
       (→keep (λ (x : graph.Block). mem k (targets x)) (tabled t) (block_at t.b t.a b) (block_at_lem j l) (→mem k (targets (block_at t.b t.a b)) i))
 
-  pub in_way : (k n : ℕ) → In n (ways_in (tabled t) k) → (j : ℕ) × (j < t.blocks) × (at (links_of t) j ≡ n) × (0 < arms_to (links_of t) k n)
+  pub in_way : Linked (links_of t) → (k n : ℕ) → In n (ways_in (tabled t) k) → (j : ℕ) × (j < t.blocks) × (at (links_of t) j ≡ n) × (0 < arms_to (links_of t) k n)
   unfolding ways_in arms_to numbers_of
-  in_way k n i =
+  in_way h k n i =
       let r = map-In (λ (x : graph.Block). x.number) (keep (λ (x : graph.Block). mem k (targets x)) (tabled t)) n i in
       let q = keep→ (λ (x : graph.Block). mem k (targets x)) (tabled t) r.0 r.1 in
       let p = place_of r.0.number (In-map (λ (x : graph.Block). x.number) (tabled t) r.0 q.0) in
-      let o : In k (outs (links_of t) r.0.number) = subst (In k) (ap targets (block_is r.0 q.0) ∙ targets_are t r.0.number) (mem→ k (targets r.0) q.1) in
-      (p.0, p.1, p.2 ∙ sym r.2, In→count k (outs (links_of t) n) (subst (λ (x : ℕ). In k (outs (links_of t) x)) (sym r.2) o))
+      let o : In k (outs t.a r.0.number) = subst (In k) (ap targets (block_is r.0 q.0) ∙ targets_are t h r.0.number) (mem→ k (targets r.0) q.1) in
+      (p.0, p.1, p.2 ∙ sym r.2, In→count k (outs t.a n) (subst (λ (x : ℕ). In k (outs t.a x)) (sym r.2) o))

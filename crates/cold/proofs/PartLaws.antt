@@ -1,54 +1,67 @@
 -- Two sides, one behind the other, are the partition. Assumes nothing.
-use Prim.Native.Nat.{ℕ, ◌+◌, ◌≤◌}
-use native.Mathlib.Nat.{zero-add}
+use Prim.Native.Nat.{ℕ, ◌+◌}
 use native.Mathlib.Omega.{arith}
 use mathlib.Core.Path.{◌≡◌, refl, sym, ap, ◌∙◌}
 use mathlib.Core.Bool.{Bool, true, false}
-use mathlib.Core.List.{List, []}
-use lib.ListN.{length, take}
+use mathlib.Core.List.{[]}
+use Rattle.std.specs.Prelude.{Option, None, Some, is_some}
+use lib.ListN.{length}
 use lib.Seq.{length-take-le}
-use Rattle.limits.specs.Limits.{numbers, most_arms, blocks}
-use Rattle.rules.specs.Graph.{entry}
-use Rattle.rules.specs.Split.{splits, warm_part, cold_part, partition}
+use Rattle.limits.specs.Limits.{blocks}
+use Rattle.rules.specs.Lists.{pick}
+use Rattle.rules.specs.Graph.{entry, cold_at}
+use Rattle.rules.specs.Graph as graph
+use Rattle.rules.specs.Spread.{warm_entry}
+use Rattle.rules.specs.Split.{splits, warm_part, partition}
 use Rattle.records.specs.declared.Graph.{Graph}
 use Rattle.records.specs.declared.Order.{Order}
-use Rattle.records.specs.Tables.{tabled, up_to, in_order, optional, only_blocks, no_arms, Stands}
-use Rattle.cold.specs.Sides.{splits_by, on_side, Gathered}
-use Rattle.cold.specs.Lent.{OverMarks, Within, Parted}
-use Rattle.cold.proofs.SideLaws.{splits_is, warm_side, cold_side, sides_long}
+use Rattle.records.specs.Tables.{tabled, in_order}
+use Rattle.cold.specs.Sides.{on_side, Gathered, Divides, Parted}
+use Rattle.cold.proofs.SideLaws.{warm_side, cold_side, sides_long}
 
--- both sides have room
-pub sides_fit : (marks : List ℕ) (o : Order) → o.len ≤ length o.block → length (on_side marks 0 (take o.len o.block)) + length (on_side marks 1 (take o.len o.block)) ≡ o.len
-sides_fit marks o fits = sides_long marks (take o.len o.block) ∙ length-take-le o.len o.block fits
+-- ---- whether there is a split
+module _ (g : graph.Graph) where
+  -- only with an entry
+  split_entry : (o : Option ℕ) → entry g ≡ o → splits g ≡ true → (e : ℕ) × (o ≡ Some e)
+  unfolding splits warm_entry
+  split_entry None q h = absurd (let z : false ≡ true = rw (q, warm_entry) at h in cc)
+  split_entry (Some e) q h = (e, refl)
 
-module _ (t : Graph) (listed marks : List ℕ) (n : ℕ) (k : OverMarks t listed marks n) where
-  -- the tables have room for every number
-  pub marks_sized : Stands numbers most_arms t (tabled t) → (n ≤ blocks) × (length listed ≡ blocks) × (length marks ≡ blocks)
-  marks_sized s =
-      (omega (arith, k.blocks_is, s.few), ap length (sym k.listed_is) ∙ s.blocks_sized.listed, ap length (sym k.marks_is) ∙ s.blocks_sized.marks)
+  module _ (o : Option ℕ) (found : o ≡ pick (splits g) (entry g) None) where
+    pub split_some : (e : ℕ) → o ≡ Some e → (splits g ≡ true) × (entry g ≡ Some e)
+    unfolding pick
+    split_some e q = go (splits g) refl
+      where
+        go : (b : Bool) → splits g ≡ b → (splits g ≡ true) × (entry g ≡ Some e)
+        go true h = (h, sym (rw h at found) ∙ q)
+        go false h = absurd (let z : ◌≡◌ {A = Option ℕ} (Some e) None = sym q ∙ (rw h at found) in cc)
 
-  module _ (o : Order) (within : Within t o) (e : ℕ) (found : optional e ≡ entry (up_to (only_blocks listed marks [] []) no_arms n)) where
-    split_is : (y : Bool) → splits_by listed marks n e ≡ y → splits (tabled t) ≡ y
-    unfolding tabled
-    split_is y h = splits_is t.b t.a t.blocks e (rw (k.listed_is, k.marks_is, k.blocks_is) found) ∙ rw (k.listed_is, k.marks_is, k.blocks_is) h
+    pub split_is : is_some o ≡ splits g
+    unfolding pick
+    split_is = go (splits g) refl
+      where
+        go : (b : Bool) → splits g ≡ b → is_some o ≡ b
+        go true h = let r = split_entry (entry g) refl h in rw (rw h at found, r.1) refl
+        go false h = rw (rw h at found) refl
 
-    warm_is : warm_part (tabled t) (in_order o) ≡ on_side marks 0 (take o.len o.block)
-    unfolding tabled in_order
-    warm_is = warm_side t.b t.a t.blocks (take o.len o.block) within ∙ rw k.marks_is refl
+-- ---- the parts
+module _ (t : Graph) (o : Order) (d : Divides t o) (sized : length o.block ≡ blocks) where
+  -- both sides have room
+  pub sides_fit : length (on_side t.b.marks false (in_order o)) + length (on_side t.b.marks true (in_order o)) ≡ o.len
+  unfolding in_order
+  sides_fit = sides_long t.b.marks (in_order o) ∙ length-take-le o.len o.block (omega (arith, d.fits, sized))
 
-    cold_is : cold_part (tabled t) (in_order o) ≡ on_side marks 1 (take o.len o.block)
-    unfolding tabled in_order
-    cold_is = cold_side t.b t.a t.blocks (take o.len o.block) within ∙ rw k.marks_is refl
+  pub parted : splits (tabled t) ≡ true → (none warm both : Order) → in_order none ≡ [] → none.len ≡ 0
+      → Gathered (on_side t.b.marks false (in_order o)) none warm → Gathered (on_side t.b.marks true (in_order o)) warm both
+      → Parted t o (record { order = both; split = Some warm.len })
+  unfolding partition pick
+  parted h none warm both n z w c =
+      record {
+        parts = c.behind ∙ rw (w.behind, n, h, partition, warm_side t o d.within, cold_side t o d.within) refl;
+        long = omega (arith, c.ends, w.ends, z, sides_fit);
+        split = let e : warm.len ≡ length (warm_part (tabled t) (in_order o)) = omega (arith, w.ends, z, ap length (warm_side t o d.within)) in rw h (ap (λ (k : ℕ). Some k) e);
+      }
 
-    pub parted : o.len ≤ length o.block → (before warm both : List ℕ) (s r : ℕ) → splits_by listed marks n e ≡ true → length before ≡ blocks
-        → Gathered marks (take o.len o.block) 0 0 before warm s → Gathered marks (take o.len o.block) 1 s warm both r
-        → Parted t o (record { order = record { block = both; len = r }; split = s })
-    unfolding partition in_order
-    parted fits before warm both s r h z w c = (
-      (c.behind ∙ rw (w.behind, split_is true h, partition, warm_is, cold_is) refl, omega (arith, c.ends, w.ends, sides_fit marks o fits), c.sized ∙ w.sized ∙ z),
-      w.ends ∙ zero-add (length (on_side marks 0 (take o.len o.block))) ∙ rw (split_is true h) (ap length (sym warm_is)),
-    )
-
-    pub unparted : splits_by listed marks n e ≡ false → length o.block ≡ blocks → Parted t o (record { order = o; split = blocks })
-    unfolding partition
-    unparted h z = ((rw (split_is false h, partition) refl, refl, z), rw (split_is false h) refl)
+  pub unparted : splits (tabled t) ≡ false → Parted t o (record { order = o; split = None })
+  unfolding partition pick
+  unparted h = record { parts = rw (h, partition) refl; long = refl; split = rw h refl }

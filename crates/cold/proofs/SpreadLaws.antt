@@ -5,41 +5,31 @@ use mathlib.Core.Path.{◌≡◌, refl, sym, ap, ap₂, ◌∙◌, subst}
 use mathlib.Core.Bool.{Bool, true, false, not, ◌&&◌, ◌||◌, cond}
 use mathlib.Core.Logic.{◌⊎◌, inl, inr}
 use mathlib.Core.List.{List, [], ◌∷◌, ◌++◌, map}
-use mathlib.Core.Option.{Option, some}
-use lib.Dec.{T, eqb, ltb, T_not, not_T, eqb→eq, eqb-suc-zero}
+use Rattle.std.specs.Prelude.{Option, Some}
+use lib.Dec.{T, eqb, T_not, not_T, eqb→eq, eqb-suc-zero}
 use lib.ListN.{length, get_or}
-use borrow.Author.Tests.{lt-ltb, eq-eqb, ne_eqb, eqb-true, eqb-false, ltb-true}
+use borrow.Author.Tests.{lt-ltb, eq-eqb, ne_eqb, eqb-true, eqb-false}
 use Rattle.limits.specs.Limits.{numbers, most_arms, blocks}
-use Rattle.lists.proofs.Choices.{split_bool}
+use Rattle.lists.proofs.Choices.{split_bool, same_test}
 use Rattle.rules.specs.Lists.{keep, any, mem}
 use Rattle.rules.specs.Graph as graph
 use Rattle.rules.specs.Graph.{is_cold, entry, names}
 use Rattle.rules.specs.Spread.{ways_in, cold_blocks, warm_entry, spreads, cold_set, chilled, spread}
 use Rattle.rules.specs.Split.{splits}
 use Rattle.rules.proofs.Membership.{In, keep→, map-In, mem→, T→≡, map_append}
-use Rattle.rules.proofs.Wholeness.{Whole}
 use Rattle.rules.proofs.SpreadLeast.{Shut, spread_closed, spread_least, spread_none}
 use Rattle.rules.proofs.SpreadMarks.{cold_stays}
 use Rattle.records.specs.declared.Graph.{Graph}
-use Rattle.records.specs.Tables.{block_at, up_to, tabled, optional, only_blocks, no_arms, Stands}
-use Rattle.records.proofs.StandLaws.{optional_some, entry_same}
-use Rattle.cold.specs.Sides.{splits_by}
-use Rattle.cold.specs.Ways.{links, at, arms_to, ins, cold_ins, Linked}
-use Rattle.cold.specs.Sweeps.{joining, joins_at, cooled, Cools, Settled}
+use Rattle.records.specs.Tables.{block_at, up_to, tabled, Stands, Sound}
+use Rattle.cold.specs.Ways.{links_of, at, arms_to, ins, cold_ins, Linked}
+use Rattle.cold.specs.Sweeps.{with_marks, joining, joins_at, cooled, Cools, Settled}
 use Rattle.cold.specs.Sweeps.Cools.{still, next}
-use Rattle.cold.specs.Lent.{Over, OverMarks, with_marks}
-use Rattle.cold.proofs.SideLaws.{splits_is}
+use Rattle.cold.specs.Spreading.{SpreadTo}
 use Rattle.cold.proofs.SweepLaws.{joins_at_lem, cold_next, cooled_here, cooled_else, cools_sized}
-use Rattle.cold.proofs.LinkLaws.{links_of, ins_some, ins_pos, cold_all, all_cold, block_at_lem, number_at, place_of, block_is, linked, way_in, in_way}
+use Rattle.cold.proofs.LinkLaws.{ins_some, ins_pos, cold_all, all_cold, block_at_lem, number_at, place_of, block_is, linked, way_in, in_way}
 
 clash : {X : Type 0} (b : Bool) → b ≡ true → b ≡ false → X
 clash b p q = absurd (let z : true ≡ false = sym p ∙ q in subst T z tt)
-
-both : (a b : Bool) → (T a → T b) → (T b → T a) → a ≡ b
-both true true f g = refl
-both true false f g = absurd (f tt)
-both false true f g = absurd (g tt)
-both false false f g = refl
 
 -- ---- "Only with a warm entry and some cold block"
 some_cold : (g : graph.Graph) → not (eqb (length (cold_blocks g)) 0) ≡ any (λ (b : graph.Block). is_cold b.marks) g
@@ -132,7 +122,7 @@ module _ (t : Graph) where
   -- where nothing spreads the marks are right as they are
   pub none_set : spreads (tabled t) ≡ false → (i : ℕ) → i < t.blocks → is_cold (get_or t.b.marks (at (links_of t) i) 0) ≡ mem (at (links_of t) i) (cold_set (tabled t))
   none_set n i l =
-      both (is_cold (get_or t.b.marks (at (links_of t) i) 0)) (mem (at (links_of t) i) (cold_set (tabled t)))
+      same_test (is_cold (get_or t.b.marks (at (links_of t) i) 0)) (mem (at (links_of t) i) (cold_set (tabled t)))
       (λ c. mark_cold i l (T→≡ (is_cold (get_or t.b.marks (at (links_of t) i) 0)) c))
       (λ c. rw (cold_mark (at (links_of t) i) (subst (λ (s : List ℕ). T (mem (at (links_of t) i) s)) (spread_none (tabled t) (rw n tt)) c)) tt)
 
@@ -151,7 +141,7 @@ module _ (t : Graph) where
             (kept_more (get_or t.b.marks k 0) (get_or n k 0) ih (ap (λ (x : ℕ). is_cold (get_or n x 0)) v ∙ (joins_at_lem (links_of t) e n i q).warm))
         go ih false u = subst (Kept (get_or t.b.marks k 0)) (sym (cooled_else (links_of t) h n z i l k (eqb-false k (at (links_of t) i) u))) ih
 
-    module _ (spreading : T (spreads (tabled t))) (entry_is : entry (tabled t) ≡ some e) where
+    module _ (spreading : T (spreads (tabled t))) (entry_is : entry (tabled t) ≡ Some e) where
       not_entry : (k : ℕ) → eqb k e ≡ false → T (not (names (entry (tabled t)) k))
       unfolding names
       not_entry k d = rw entry_is (not_T (eqb e k) (λ u. eqb-false k e d (sym (eqb→eq e k u))))
@@ -163,8 +153,8 @@ module _ (t : Graph) where
           let j = joins_at_lem (links_of t) e m i q in
           let k = at (links_of t) i in
           let r = ins_some (links_of t) t.blocks k j.some in
-          (spread_closed (tabled t) spreading).shut k (number_at t i l) (not_entry k j.other) (some_ways k (at (links_of t) r.0) (way_in t k r.0 r.1 r.2))
-          (λ n u. let p = in_way t k n u in
+          (spread_closed (tabled t) spreading).shut k (number_at t i l) (not_entry k j.other) (some_ways k (at (links_of t) r.0) (way_in t h k r.0 r.1 r.2))
+          (λ n u. let p = in_way t h k n u in
           subst (λ (x : ℕ). T (mem x (cold_set (tabled t)))) p.2
           (inside p.0 p.1 (cold_all (links_of t) h m k t.blocks j.all p.0 p.1 (subst (λ (x : ℕ). 0 < arms_to (links_of t) k x) (sym p.2) p.3))))
         where
@@ -187,7 +177,7 @@ module _ (t : Graph) where
           go ih true d = subst (λ (x : ℕ). T (mem x (cold_set (tabled t)))) (sym (eqb-true (at (links_of t) i) (at (links_of t) p) d)) (joins_set n ih p u q)
           go ih false d = ih i l (ap is_cold (sym (cooled_else (links_of t) h n z p u (at (links_of t) i) (eqb-false (at (links_of t) i) (at (links_of t) p) d))) ∙ c)
 
-      module _ (m : List ℕ) (s : Settled (links_of t) e t.b.marks m) where
+      module _ (m : List ℕ) (turns : ℕ) (cools : Cools (links_of t) e t.b.marks turns m) (quiet : (i : ℕ) → i < t.blocks → joins_at (links_of t) e m i ≡ false) where
         -- a block that no longer joins, though all its ways in are cold, is cold
         stays_cold : (i : ℕ) → i < t.blocks → T (not (names (entry (tabled t)) (at (links_of t) i))) → T (not (eqb (length (ways_in (tabled t) (at (links_of t) i))) 0))
             → ((n : ℕ) → In n (ways_in (tabled t) (at (links_of t) i)) → T (is_cold (get_or m n 0))) → is_cold (get_or m (at (links_of t) i) 0) ≡ true
@@ -197,10 +187,10 @@ module _ (t : Graph) where
             split_bool (is_cold (get_or m k 0)) (λ c. c)
             (λ c.
             let a = first_way k o in
-            let some = ins_pos (links_of t) t.blocks k a.0 a.1 a.2 in
-            let alike = all_cold (links_of t) h m k t.blocks (λ j v x. T→≡ (is_cold (get_or m (at (links_of t) j) 0)) (f (at (links_of t) j) (way_in t k j v x))) in
+            let Some = ins_pos (links_of t) t.blocks k a.0 a.1 a.2 in
+            let alike = all_cold (links_of t) h m k t.blocks (λ j v x. T→≡ (is_cold (get_or m (at (links_of t) j) 0)) (f (at (links_of t) j) (way_in t h k j v x))) in
             let other : eqb k e ≡ false = ne_eqb k e (λ x. T_not (eqb e k) (subst (λ (y : Option ℕ). T (not (names y k))) entry_is d) (subst T (sym (eq-eqb e k (sym x))) tt)) in
-            clash (joins_at (links_of t) e m i) (rw (other, c, lt-ltb 0 (ins (links_of t) t.blocks k) some) (eq-eqb (ins (links_of t) t.blocks k) (cold_ins (links_of t) m t.blocks k) alike)) (s.quiet i l))
+            clash (joins_at (links_of t) e m i) (rw (other, c, lt-ltb 0 (ins (links_of t) t.blocks k) Some) (eq-eqb (ins (links_of t) t.blocks k) (cold_ins (links_of t) m t.blocks k) alike)) (quiet i l))
           where
             first_way : (k : ℕ) → T (not (eqb (length (ways_in (tabled t) k)) 0)) → (j : ℕ) × (j < t.blocks) × (0 < arms_to (links_of t) k (at (links_of t) j))
             first_way k o = go (ways_in (tabled t) k) refl o
@@ -208,13 +198,13 @@ module _ (t : Graph) where
                 go : (x : List ℕ) → ways_in (tabled t) k ≡ x → T (not (eqb (length x) 0)) → (j : ℕ) × (j < t.blocks) × (0 < arms_to (links_of t) k (at (links_of t) j))
                 go [] q o = absurd o
                 go (n ∷ x) q o =
-                    let r = in_way t k n (subst (In n) (sym q) (inl refl)) in
+                    let r = in_way t h k n (subst (In n) (sym q) (inl refl)) in
                     (r.0, r.1, subst (λ (y : ℕ). 0 < arms_to (links_of t) k y) (sym r.2) r.3)
 
         settled_shut : Shut (tabled t) (entry (tabled t)) (cold_blocks (tabled t)) (λ (b : ℕ). T (is_cold (get_or m b 0)))
         settled_shut =
             record {
-              starts = λ b c. subst T (sym (kept_cold (get_or t.b.marks b 0) (get_or m b 0) (cools_kept s.turns m s.cools b) (cold_mark b c))) tt;
+              starts = λ b c. subst T (sym (kept_cold (get_or t.b.marks b 0) (get_or m b 0) (cools_kept turns m cools b) (cold_mark b c))) tt;
               shut = λ b u d o f. let r = place_of t b u in
                   subst (λ (x : ℕ). T (is_cold (get_or m x 0))) r.2
                   (subst T (sym (stays_cold r.0 r.1 (subst (λ (x : ℕ). T (not (names (entry (tabled t)) x))) (sym r.2) d) (subst (λ (x : ℕ). T (not (eqb (length (ways_in (tabled t) x)) 0))) (sym r.2) o)
@@ -223,43 +213,27 @@ module _ (t : Graph) where
 
         pub settled_set : (i : ℕ) → i < t.blocks → is_cold (get_or m (at (links_of t) i) 0) ≡ mem (at (links_of t) i) (cold_set (tabled t))
         settled_set i l =
-            both (is_cold (get_or m (at (links_of t) i) 0)) (mem (at (links_of t) i) (cold_set (tabled t)))
-            (λ c. cools_inside s.turns m s.cools i l (T→≡ (is_cold (get_or m (at (links_of t) i) 0)) c))
+            same_test (is_cold (get_or m (at (links_of t) i) 0)) (mem (at (links_of t) i) (cold_set (tabled t)))
+            (λ c. cools_inside turns m cools i l (T→≡ (is_cold (get_or m (at (links_of t) i) 0)) c))
             (λ c. spread_least (tabled t) spreading (λ (b : ℕ). T (is_cold (get_or m b 0))) settled_shut (at (links_of t) i) c)
 
 -- ---- the pass
-module _ (t : Graph) (listed marks first count to : List ℕ) (n : ℕ) (k : Over t listed marks first count to n) where
-  -- the tables that `partition` asks for are among them
-  pub over_marks : OverMarks t listed marks n
-  over_marks = record { listed_is = k.listed_is; marks_is = k.marks_is; blocks_is = k.blocks_is }
+module _ (t : Graph) (sound : Sound t) where
+  pub spread_settled : (e : ℕ) → splits (tabled t) ≡ true → entry (tabled t) ≡ Some e → (t' : Graph) → Settled e t t' → SpreadTo t t'
+  spread_settled e h found t' q =
+      let l = linked t sound.stands sound.whole in
+      let sized = sound.stands.blocks_sized.marks in
+      record {
+        stands =
+            subst (λ (x : Graph). Stands numbers most_arms x (spread (tabled t))) (sym q.same)
+            (marked_stands t t'.b.marks (cools_kept t l sized e q.turns t'.b.marks q.cools)
+            (settled_set t l sized e (rw (spreads_are (tabled t) ∙ h) tt) found t'.b.marks q.turns q.cools q.quiet) sound.stands q.sized);
+        same = q.same;
+      }
 
-  module _ (s : Stands numbers most_arms t (tabled t)) where
-    pub over_linked : Whole (tabled t) → Linked (links listed first count to n)
-    over_linked whole = subst Linked (rw (k.listed_is, k.first_is, k.count_is, k.to_is, k.blocks_is) refl) (linked t s whole)
-
-    module _ (e : ℕ) (found : optional e ≡ entry (up_to (only_blocks listed marks [] []) no_arms n)) where
-      found_is : optional e ≡ entry (up_to (only_blocks t.b.listed t.b.marks [] []) no_arms t.blocks)
-      found_is = rw (k.listed_is, k.marks_is, k.blocks_is) found
-
-      spreads_by : (y : Bool) → splits_by listed marks n e ≡ y → spreads (tabled t) ≡ y
-      unfolding tabled
-      spreads_by y h = spreads_are (tabled t) ∙ splits_is t.b t.a t.blocks e found_is ∙ rw (k.listed_is, k.marks_is, k.blocks_is) h
-
-      entry_by : splits_by listed marks n e ≡ true → entry (tabled t) ≡ some e
-      unfolding tabled splits_by
-      entry_by h =
-          entry_same t.b (only_blocks t.b.listed t.b.marks [] []) t.a no_arms refl refl t.blocks ∙ sym found_is
-          ∙ optional_some e (split_bool (ltb e blocks) (λ q. ltb-true e blocks q) (λ q. absurd (let z : false ≡ true = rw q at h in subst T (sym z) tt)))
-
-      pub spread_settled : Whole (tabled t) → splits_by listed marks n e ≡ true → (m : List ℕ) → Settled (links listed first count to n) e marks m
-          → Stands numbers most_arms (with_marks t m) (spread (tabled t))
-      spread_settled whole h m q =
-          let l = linked t s whole in
-          let o : Settled (links_of t) e t.b.marks m = rw (k.listed_is, k.marks_is, k.first_is, k.count_is, k.to_is, k.blocks_is) q in
-          marked_stands t m (cools_kept t l s.blocks_sized.marks e o.turns m o.cools)
-          (settled_set t l s.blocks_sized.marks e (rw (spreads_by true h) tt) (entry_by h) m o) s o.sized
-
-      pub spread_still : splits_by listed marks n e ≡ false → Stands numbers most_arms (with_marks t marks) (spread (tabled t))
-      spread_still h =
-          rw (← k.marks_is)
-          (marked_stands t t.b.marks (λ i. inl refl) (none_set t (spreads_by false h)) s s.blocks_sized.marks)
+  pub spread_still : splits (tabled t) ≡ false → SpreadTo t t
+  spread_still h =
+      record {
+        stands = marked_stands t t.b.marks (λ i. inl refl) (none_set t (spreads_are (tabled t) ∙ h)) sound.stands sound.stands.blocks_sized.marks;
+        same = refl;
+      }

@@ -1,24 +1,24 @@
 -- Blocks that join the cold ones: what turning one cold changes, and that it comes to an end. Assumes nothing.
 use Prim.Native.Nat.{ℕ, zero, suc, ◌+◌, ◌-◌, ◌≤◌, ◌<◌}
 use native.Mathlib.Nat.{add-zero, add-suc}
-use native.Mathlib.Numerals.{add-one}
 use native.Mathlib.Omega.{arith}
 use mathlib.Core.Path.{◌≡◌, refl, sym, ap, ap₂, ◌∙◌, subst}
-use mathlib.Core.Bool.{Bool, true, false, cond, true≢false}
-use mathlib.Core.Logic.{inl, inr, ⊎_elim}
+use mathlib.Core.Bool.{Bool, true, false, cond, ◌||◌, true≢false}
 use mathlib.Core.List.{List}
 use lib.Dec.{eqb, ltb}
-use lib.ListN.{length, get_or, set, length-set}
+use lib.ListN.{length, get_or, length-set}
 use lib.Seq.{get_or-set_same, get_or-set_other}
-use borrow.Author.Tests.{ltb-true, eqb-true}
+use borrow.Author.Tests.{ltb-true, lt-ltb, eqb-true}
 use Rattle.limits.specs.Limits.{blocks}
 use Rattle.lists.proofs.Choices.{split_lt}
 use Rattle.rules.specs.Graph.{is_cold}
-use Rattle.cold.specs.Ways.{Links, toward, outs, at, arms_to, ins, cold_sum, cold_ins, Linked, Added, Counts}
-use Rattle.cold.specs.Sweeps.{joining, joins_at, cooled, Chills, Chilled, Cools, Sweeps, Swept, Settled}
+use Rattle.records.specs.declared.Graph.{Graph}
+use Rattle.cold.specs.declared.ways.Ways.{Ways}
+use Rattle.cold.specs.Ways.{Links, links_of, at, arms_to, ins, cold_sum, cold_ins, Linked}
+use Rattle.cold.specs.Sweeps.{with_marks, joining, joins_at, cooled, Chills, Chilled, Cools, Sweeps, Cooling, Swept, Settled}
 use Rattle.cold.specs.Sweeps.Cools.{still, next}
 use Rattle.cold.proofs.SideLaws.{cold_is, is_warm}
-use Rattle.cold.proofs.WayLaws.{Room, cold_fit}
+use Rattle.cold.proofs.WayLaws.{cold_fit}
 
 -- ---- the test
 pub record Joins (k e m a c : ℕ) : Type 0 where
@@ -41,32 +41,6 @@ joins_are k e m a c h = go (eqb k e) (is_cold m) (ltb 0 a) refl refl refl h
 pub joins_at_lem : (w : Links) (e : ℕ) (m : List ℕ) (i : ℕ) → joins_at w e m i ≡ true → Joins (at w i) e (get_or m (at w i) 0) (ins w w.blocks (at w i)) (cold_ins w m w.blocks (at w i))
 unfolding joins_at
 joins_at_lem w e m i q = joins_are (at w i) e (get_or m (at w i) 0) (ins w w.blocks (at w i)) (cold_ins w m w.blocks (at w i)) q
-
--- ---- one block turned cold
-module _ (first count to : List ℕ) (k : ℕ) (m c : List ℕ) (h : Chills first count to k m c) (a : List ℕ) (e b : ℕ) (same : b ≡ k) where
-  pub chill_room : (f n : ℕ) → joining b e (get_or m b 0) (get_or a b 0) (get_or c b 0) ≡ true → f ≡ get_or first k 0 → n ≡ get_or count k 0 → Room to f n c
-  chill_room f n j p q =
-      let t : toward to f n ≡ toward to (get_or first k 0) (get_or count k 0) = ap₂ (toward to) p q in
-      let warm : is_cold (get_or m k 0) ≡ false = subst (λ (x : ℕ). is_cold (get_or m x 0) ≡ false) same (joins_are _ _ _ _ _ j).warm in
-      rw t ((omega (arith, h.fits), h.cold, h.goes), h.room warm)
-
-  pub chill_yes : (f n v : ℕ) (d : List ℕ) → v ≡ get_or m b 0 + 2 → joining b e (get_or m b 0) (get_or a b 0) (get_or c b 0) ≡ true → f ≡ get_or first k 0 → n ≡ get_or count k 0 → Added (toward to f n) c d
-      → Chilled first count to a k e m (set m b v) c d 1
-  unfolding cooled
-  chill_yes f n v d z j p q r = record {
-    came = inl (
-      subst (λ (x : ℕ). joining x e (get_or m x 0) (get_or a x 0) (get_or c x 0) ≡ true) same j,
-      ap (λ (x : ℕ). set m b x) z ∙ ap (λ (x : ℕ). set m x (get_or m x 0 + 2)) same,
-      subst (λ (l : List ℕ). Added l c d) (ap₂ (toward to) p q) r,
-      refl,
-    );
-  }
-
-  pub chill_no : joining b e (get_or m b 0) (get_or a b 0) (get_or c b 0) ≡ false → Chilled first count to a k e m m c c 0
-  chill_no j = record { came = inr (subst (λ (x : ℕ). joining x e (get_or m x 0) (get_or a x 0) (get_or c x 0) ≡ false) same j, refl, refl, refl) }
-
-pub chill_one : {first count to arms : List ℕ} {k e : ℕ} {m m' c c' : List ℕ} {r : ℕ} → Chilled first count to arms k e m m' c c' r → r ≤ 1
-chill_one h = ⊎_elim (λ q. omega (arith, q.3)) (λ q. omega (arith, q.3)) h.came
 
 -- ---- the marks, and sums over the cold blocks
 pub cold_next : (m : ℕ) → is_cold m ≡ false → is_cold (m + 2) ≡ true
@@ -109,54 +83,100 @@ module _ (w : Links) (h : Linked w) (m : List ℕ) (sized : length m ≡ blocks)
   ins_cooled warm k = sum_cooled (arms_to w k) warm
 
 -- ---- a sweep
-module _ (w : Links) (h : Linked w) where
-  module _ (e : ℕ) (m₀ m c : List ℕ) (i j : ℕ) (l : i < w.blocks) (s : Swept w e m₀ i j m c) where
-    pub sweep_chills : Chills w.first w.count w.to (at w i) m c
-    unfolding outs arms_to
-    sweep_chills =
-        record {
-          first_long = h.first;
-          count_long = h.count;
-          marks = s.sized;
-          cold = s.counts.sized;
-          below = h.below i l;
-          fits = h.fits (at w i);
-          goes = h.goes i l;
-          room = λ warm n. omega (arith, s.counts.each n, ins_cooled w h m s.sized i l warm n, cold_fit w h (cooled m (at w i)) w.blocks n (omega arith));
-        }
+module _ (e : ℕ) (t₀ t : Graph) (h : Linked (links_of t₀)) (i : ℕ) (l : i < t₀.blocks) (v : Ways) where
+  -- what is true of t₀ with the marks of t is true of t
+  pub sweep_chills : (r : Bool) → Swept e t₀ i t v r → Chills t (get_or t.b.listed i 0) v
+  unfolding arms_to
+  sweep_chills r s =
+      let w = links_of t₀ in
+      let m = t.b.marks in
+      subst (λ (x : Graph). Chills x (get_or x.b.listed i 0) v) (sym s.cooling.same)
+      (record {
+        below = h.below i l;
+        adds =
+            λ warm.
+            record {
+              fits = h.fits (at w i);
+              goes = h.goes i l;
+              room = λ n. omega (arith, s.cooling.counts.cold n, ins_cooled w h m s.cooling.sized i l warm n, cold_fit w h (cooled m (at w i)) w.blocks n (omega arith));
+            };
+      })
 
-    module _ (a : List ℕ) (t : Counts a (ins w w.blocks)) where
-      told : (y : Bool) → joining (at w i) e (get_or m (at w i) 0) (get_or a (at w i) 0) (get_or c (at w i) 0) ≡ y → joins_at w e m i ≡ y
-      unfolding joins_at
-      told y q = ap₂ (joining (at w i) e (get_or m (at w i) 0)) (sym (t.each (at w i))) (sym (s.counts.each (at w i))) ∙ q
+  sweep_told : (r : Bool) → Swept e t₀ i t v r → (y : Bool)
+      → joining (at (links_of t₀) i) e (get_or t.b.marks (at (links_of t₀) i) 0) (get_or v.ins (at (links_of t₀) i) 0) (get_or v.cold (at (links_of t₀) i) 0) ≡ y → joins_at (links_of t₀) e t.b.marks i ≡ y
+  unfolding joins_at
+  sweep_told r s y q =
+      let k = at (links_of t₀) i in
+      ap₂ (joining k e (get_or t.b.marks k 0)) (sym (s.cooling.counts.ins k)) (sym (s.cooling.counts.cold k)) ∙ q
 
-      pub sweep_more : (m' c' : List ℕ) (r : ℕ) → Chilled w.first w.count w.to a (at w i) e m m' c c' r → Swept w e m₀ (i + 1) (j + r) m' c'
-      unfolding outs arms_to
-      sweep_more m' c' r d =
-          ⊎_elim
-          (λ q. let warm = (joins_are _ _ _ _ _ q.0).warm in
-          rw (q.1, q.3, add-one j)
+  pub sweep_more : (t' : Graph) (v' : Ways) (r d : Bool) → Swept e t₀ i t v r → Chilled t v (get_or t.b.listed i 0) e t' v' d → Swept e t₀ (i + 1) t' v' (r || d)
+  unfolding arms_to
+  sweep_more t' v' r d s c = go r d s (subst (λ (x : Graph). Chilled x v (get_or x.b.listed i 0) e t' v' d) s.cooling.same c)
+    where
+      w : Links
+      w = links_of t₀
+
+      m : List ℕ
+      m = t.b.marks
+
+      or_true : (a : Bool) → a || true ≡ true
+      or_true true = refl
+      or_true false = refl
+
+      or_false : (a : Bool) → a || false ≡ a
+      or_false true = refl
+      or_false false = refl
+
+      go : (r d : Bool) → Swept e t₀ i t v r → Chilled (with_marks t₀ m) v (at w i) e t' v' d → Swept e t₀ (i + 1) t' v' (r || d)
+      go r true s c =
+          let joins = sweep_told r s true (sym c.told) in
+          let warm = (joins_at_lem w e m i joins).warm in
+          rw (or_true r)
+          (subst (λ (x : Graph). Swept e t₀ (i + 1) x v' true) (sym c.graph)
           (record {
-            cools = next s.cools i l (told true q.0);
-            sized = cooled_sized w h m s.sized i l;
-            counts =
+            turns = suc s.turns;
+            cooling =
                 record {
-                  sized = q.2.sized ∙ s.counts.sized;
-                  each = λ k. q.2.counts k ∙ rw (s.counts.each k) (sym (ins_cooled w h m s.sized i l warm k));
+                  same = refl;
+                  cools = next s.cooling.cools i l joins;
+                  sized = cooled_sized w h m s.cooling.sized i l;
+                  counts =
+                      record {
+                        ins = λ k. ap (λ (x : List ℕ). get_or x k 0) c.ins ∙ s.cooling.counts.ins k;
+                        cold = λ k. omega (arith, (c.cold refl).counts k, s.cooling.counts.cold k, ins_cooled w h m s.cooling.sized i l warm k);
+                      };
                 };
-            quiet = λ z. absurd (omega (arith, z));
+            told = sym (lt-ltb 0 (suc s.turns) (omega arith));
+            quiet = λ z. absurd (true≢false z);
           }))
-          (λ q. rw (q.1, q.2, q.3, add-zero j)
+      go r false s c =
+          rw (or_false r)
+          (subst (λ (x : Graph). Swept e t₀ (i + 1) x v' r) (sym c.graph)
           (record {
-            cools = s.cools;
-            sized = s.sized;
-            counts = s.counts;
-            quiet = λ z k u. split_lt k i (λ v. s.quiet z k v) (λ v. let x : k ≡ i = omega (arith, u, v) in rw x (told false q.0));
+            turns = s.turns;
+            cooling =
+                record {
+                  same = refl;
+                  cools = s.cooling.cools;
+                  sized = s.cooling.sized;
+                  counts =
+                      record {
+                        ins = λ k. ap (λ (x : List ℕ). get_or x k 0) c.ins ∙ s.cooling.counts.ins k;
+                        cold = λ k. ap (λ (x : List ℕ). get_or x k 0) (c.still refl) ∙ s.cooling.counts.cold k;
+                      };
+                };
+            told = s.told;
+            quiet = λ z k u. split_lt k i (λ q. s.quiet z k q) (λ q. let x : k ≡ i = omega (arith, u, q) in rw x (sweep_told r s false (sym c.told)));
           }))
-          d.came
 
-  pub sweep_start : (e : ℕ) (a m c : List ℕ) → Sweeps w a m c → Swept w e m 0 0 m c
-  sweep_start e a m c s = record { cools = still; sized = s.marks; counts = s.cold; quiet = λ z k u. absurd (omega (arith, u)) }
+pub sweep_start : (e : ℕ) (t : Graph) (v : Ways) → Sweeps t v → Swept e t 0 t v false
+sweep_start e t v s =
+    record {
+      turns = 0;
+      cooling = record { same = refl; cools = still; sized = s.sized; counts = s.counts };
+      told = refl;
+      quiet = λ z k u. absurd (omega (arith, u));
+    }
 
 -- ---- sweeps come to an end
 -- how many of the listed blocks are cold
@@ -193,15 +213,25 @@ module _ (w : Links) (h : Linked w) (e : ℕ) where
   pub colds_most : (m : List ℕ) → colds w m ≤ w.blocks
   colds_most m = sum_most m w.blocks
 
-  module _ (a m₀ m c m' c' : List ℕ) (r : ℕ) (s : Sweeps w a m c) (t : Swept w e m w.blocks r m' c') where
-    pub settle_less : (r ≡ 0 → ⊥) → warms w m' < warms w m
-    settle_less z = omega (arith, cools_more m m' r s.marks t.cools, colds_most m', z)
+module _ (e : ℕ) (t₀ t : Graph) (h : Linked (links_of t₀)) (v : Ways) (j : ℕ) (k : Cooling e t₀ t v j) where
+  pub cool_sweeps : Sweeps t v
+  cool_sweeps = subst (λ (x : Graph). Sweeps x v) (sym k.same) (record { linked = h; sized = k.sized; counts = k.counts })
 
-    pub settle_more : Sweeps w a m' c'
-    settle_more = record { linked = s.linked; marks = t.sized; arms = s.arms; cold = t.counts }
+  module _ (t' : Graph) (v' : Ways) (r : Bool) (s : Swept e t t.blocks t' v' r) where
+    abbrev w : Links
+    w = links_of t₀
 
-    pub settle_on : (x : ℕ) × Cools w e m₀ x m → (x : ℕ) × Cools w e m₀ x m'
-    settle_on k = cools_on m₀ m k.0 k.1 m' r t.cools
+    here : Swept e (with_marks t₀ t.b.marks) t₀.blocks t' v' r
+    here = subst (λ (x : Graph). Swept e x x.blocks t' v' r) k.same s
 
-    pub settle_last : (x : ℕ) × Cools w e m₀ x m → r ≡ 0 → Settled w e m₀ m'
-    settle_last k z = let b = settle_on k in record { turns = b.0; cools = b.1; sized = t.sized; quiet = t.quiet z }
+    pub cool_less : r ≡ true → warms w t'.b.marks < warms w t.b.marks
+    cool_less z =
+        omega (arith, cools_more w h e t.b.marks t'.b.marks here.turns k.sized here.cooling.cools, colds_most w h e t'.b.marks, ltb-true 0 here.turns (sym here.told ∙ z))
+
+    pub cool_more : (n : ℕ) × Cooling e t₀ t' v' n
+    cool_more =
+        let c = cools_on w h e t₀.b.marks t.b.marks j k.cools t'.b.marks here.turns here.cooling.cools in
+        (c.0, record { same = here.cooling.same; cools = c.1; sized = here.cooling.sized; counts = here.cooling.counts })
+
+    pub cool_last : r ≡ false → Settled e t₀ t'
+    cool_last z = let c = cool_more in record { same = here.cooling.same; turns = c.0; cools = c.1.cools; sized = here.cooling.sized; quiet = here.quiet z }

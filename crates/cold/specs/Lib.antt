@@ -1,4 +1,4 @@
 pub mod Sides
 pub mod Ways
 pub mod Sweeps
-pub mod Lent
+pub mod Spreading

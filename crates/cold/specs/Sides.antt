@@ -1,25 +1,43 @@
--- The split by tables: whether there is one, and the blocks of an order on one side of it.
-use Rattle.std.specs.Prelude.{ℕ, zero, suc, ◌+◌, ◌/◌, ◌%◌, ◌≡◌, Bool, false, ◌||◌, cond, List, ◌++◌, eqb, ltb, length, get_or, take}
-use Rattle.limits.specs.Limits.{blocks}
-use Rattle.rules.specs.Lists.{keep}
-use Rattle.rules.specs.Graph.{is_cold}
+-- The split: the blocks of an order on one side, and what `partition` asks for and gives.
+use Rattle.std.specs.Prelude.{ℕ, ◌+◌, ◌≤◌, ◌≡◌, Bool, List, ◌++◌, length, get_or, take, None, Some}
+use Rattle.std.specs.List.{list_any}
+use Rattle.std.proofs.Math.Bool.{beq}
+use Rattle.limits.specs.Limits.{numbers, most_arms, blocks}
+use Rattle.rules.specs.Lists.{pick, keep}
+use Rattle.rules.specs.Graph.{is_cold, numbers_of}
+use Rattle.rules.specs.Split.{splits, warm_part, partition}
+use Rattle.rules.proofs.Membership.{In}
+use Rattle.records.specs.declared.Graph.{Graph}
+use Rattle.records.specs.declared.Order.{Order}
+use Rattle.records.specs.Tables.{tabled, in_order, Stands}
+use Rattle.cold.specs.declared.Parts.{Parts}
 
--- one of the first n listed blocks is cold
-unfoldable pub any_cold : List ℕ → List ℕ → ℕ → Bool
-any_cold listed marks zero = false
-any_cold listed marks (suc i) = any_cold listed marks i || is_cold (get_or marks (get_or listed i 0) 0)
+-- one of the blocks is cold
+abbrev pub any_cold : Graph → Bool
+any_cold t = list_any (λ (k : ℕ). is_cold (get_or t.b.marks k 0)) (take t.blocks t.b.listed)
 
--- "a warm entry and a cold block": e is the entry, or past the room where there is none
-unfoldable pub splits_by : List ℕ → List ℕ → ℕ → ℕ → Bool
-splits_by listed marks n e = cond (ltb e blocks) (cond (is_cold (get_or marks e 0)) false (any_cold listed marks n)) false
+-- the blocks of an order on one side, "in order": those that are cold, or those that are not
+unfoldable pub on_side : List ℕ → Bool → List ℕ → List ℕ
+unfolding keep is_cold
+on_side marks cold o = keep (λ (n : ℕ). beq (is_cold (get_or marks n 0)) cold) o
 
--- the blocks of an order on one side, "in order": 0 is warm, 1 is cold
-unfoldable pub on_side : List ℕ → ℕ → List ℕ → List ℕ
-unfolding keep
-on_side marks side o = keep (λ (n : ℕ). eqb (get_or marks n 0 / 2 % 2) side) o
+-- l stands behind the blocks of `before`
+pub record Gathered (l : List ℕ) (before after : Order) : Type 0 where
+  pub behind : in_order after ≡ in_order before ++ l
+  pub ends : after.len ≡ before.len + length l
 
--- those of o stand behind the first a of `before`, and r is where they end
-pub record Gathered (marks o : List ℕ) (side a : ℕ) (before after : List ℕ) (r : ℕ) : Type 0 where
-  pub sized : length after ≡ length before
-  pub ends : r ≡ a + length (on_side marks side o)
-  pub behind : take r after ≡ take a before ++ on_side marks side o
+-- the order is of blocks of t
+abbrev pub Within : Graph → Order → Type 0
+Within t o = (k : ℕ) → In k (in_order o) → In k (numbers_of (tabled t))
+
+-- the tables are in order, and the order is of their blocks
+pub record Divides (t : Graph) (o : Order) : Type 0 where
+  pub stands : Stands numbers most_arms t (tabled t)
+  pub within : Within t o
+  pub fits : o.len ≤ blocks
+
+-- r is the order o split for t, where t is split
+pub record Parted (t : Graph) (o : Order) (r : Parts) : Type 0 where
+  pub parts : in_order r.order ≡ partition (tabled t) (in_order o)
+  pub long : r.order.len ≡ o.len
+  pub split : r.split ≡ pick (splits (tabled t)) (Some (length (warm_part (tabled t) (in_order o)))) None

@@ -1,10 +1,14 @@
 -- The blocks that join the cold ones, one after the other, until none does.
-use Rattle.std.specs.Prelude.{ℕ, suc, ◌+◌, ◌≤◌, ◌<◌, ◌≡◌, Bool, true, false, cond, ◌⊎◌, List, eqb, ltb, length, get_or, set}
-use Rattle.limits.specs.Limits.{most_arms, blocks}
+use Rattle.std.specs.Prelude.{ℕ, suc, ◌+◌, ◌<◌, ◌≡◌, Bool, true, false, cond, List, eqb, ltb, length, get_or, set}
+use Rattle.limits.specs.Limits.{blocks}
 use Rattle.rules.specs.Graph.{is_cold}
-use Rattle.rules.proofs.Membership.{In}
-use Rattle.rules.proofs.Counting as counting
-use Rattle.cold.specs.Ways.{most_count, Links, toward, at, ins, cold_ins, Linked, Added, Counts}
+use Rattle.records.specs.declared.Graph.{Graph}
+use Rattle.cold.specs.declared.ways.Ways.{Ways}
+use Rattle.cold.specs.Ways.{Links, links_of, outs, at, ins, cold_ins, Linked, Adds, Added, Counted}
+
+-- t with other marks
+abbrev pub with_marks : Graph → List ℕ → Graph
+with_marks t m = record t { b = record t.b { marks = m } }
 
 -- block k joins: it is not the entry e and not cold, and its arms in, at least one, are all from cold blocks
 unfoldable pub joining : ℕ → ℕ → ℕ → ℕ → ℕ → Bool
@@ -21,21 +25,17 @@ unfoldable pub cooled : List ℕ → ℕ → List ℕ
 cooled m k = set m k (get_or m k 0 + 2)
 
 -- what turning block k cold asks for: room for its mark and for its arms
-pub record Chills (first count to : List ℕ) (k : ℕ) (m c : List ℕ) : Type 0 where
-  pub first_long : length first ≡ blocks
-  pub count_long : length count ≡ blocks
-  pub marks : length m ≡ blocks
-  pub cold : length c ≡ blocks
+pub record Chills (t : Graph) (k : ℕ) (v : Ways) : Type 0 where
   pub below : k < blocks
-  pub fits : get_or first k 0 + get_or count k 0 ≤ most_arms
-  pub goes : (n : ℕ) → In n (toward to (get_or first k 0) (get_or count k 0)) → n < blocks
-  pub room : is_cold (get_or m k 0) ≡ false → (n : ℕ) → get_or c n 0 + counting.count n (toward to (get_or first k 0) (get_or count k 0)) ≤ most_count
+  pub adds : is_cold (get_or t.b.marks k 0) ≡ false → Adds t.a k v.cold
 
--- block k joined, and r is 1; or it did not, and r is 0
-pub record Chilled (first count to arms : List ℕ) (k e : ℕ) (m m' c c' : List ℕ) (r : ℕ) : Type 0 where
-  pub came :
-      ((joining k e (get_or m k 0) (get_or arms k 0) (get_or c k 0) ≡ true) × (m' ≡ cooled m k) × Added (toward to (get_or first k 0) (get_or count k 0)) c c' × (r ≡ 1))
-      ⊎ ((joining k e (get_or m k 0) (get_or arms k 0) (get_or c k 0) ≡ false) × (m' ≡ m) × (c' ≡ c) × (r ≡ 0))
+-- block k joined, if r; else nothing changed
+pub record Chilled (t : Graph) (v : Ways) (k e : ℕ) (t' : Graph) (v' : Ways) (r : Bool) : Type 0 where
+  pub told : r ≡ joining k e (get_or t.b.marks k 0) (get_or v.ins k 0) (get_or v.cold k 0)
+  pub graph : t' ≡ with_marks t (cond r (cooled t.b.marks k) t.b.marks)
+  pub ins : v'.ins ≡ v.ins
+  pub cold : r ≡ true → Added (outs t.a k) v.cold v'.cold
+  pub still : r ≡ false → v'.cold ≡ v.cold
 
 -- j blocks joined, one after the other
 pub data Cools (w : Links) (e : ℕ) (m₀ : List ℕ) : ℕ → List ℕ → Type 0 where
@@ -43,22 +43,29 @@ pub data Cools (w : Links) (e : ℕ) (m₀ : List ℕ) : ℕ → List ℕ → Ty
   next : {j : ℕ} {m : List ℕ} → Cools w e m₀ j m → (i : ℕ) → i < w.blocks → joins_at w e m i ≡ true → Cools w e m₀ (suc j) (cooled m (at w i))
 
 -- what a sweep asks for: both tables as a fresh count has them
-pub record Sweeps (w : Links) (a m c : List ℕ) : Type 0 where
-  pub linked : Linked w
-  pub marks : length m ≡ blocks
-  pub arms : Counts a (ins w w.blocks)
-  pub cold : Counts c (cold_ins w m w.blocks)
+pub record Sweeps (t : Graph) (v : Ways) : Type 0 where
+  pub linked : Linked (links_of t)
+  pub sized : length t.b.marks ≡ blocks
+  pub counts : Counted (links_of t) t.b.marks t.blocks v
 
--- after i places of a sweep j blocks have joined: the marks are m, and c counts the arms from cold blocks
-pub record Swept (w : Links) (e : ℕ) (m₀ : List ℕ) (i j : ℕ) (m c : List ℕ) : Type 0 where
-  pub cools : Cools w e m₀ j m
-  pub sized : length m ≡ blocks
-  pub counts : Counts c (cold_ins w m w.blocks)
-  pub quiet : j ≡ 0 → (k : ℕ) → k < i → joins_at w e m k ≡ false
+-- from the graph t₀ on j blocks have joined, and the tables are as a fresh count has them
+pub record Cooling (e : ℕ) (t₀ t : Graph) (v : Ways) (j : ℕ) : Type 0 where
+  pub same : t ≡ with_marks t₀ t.b.marks
+  pub cools : Cools (links_of t₀) e t₀.b.marks j t.b.marks
+  pub sized : length t.b.marks ≡ blocks
+  pub counts : Counted (links_of t₀) t.b.marks t₀.blocks v
+
+-- after i places of a sweep over t₀: r says whether a block has joined
+pub record Swept (e : ℕ) (t₀ : Graph) (i : ℕ) (t : Graph) (v : Ways) (r : Bool) : Type 0 where
+  pub turns : ℕ
+  pub cooling : Cooling e t₀ t v turns
+  pub told : r ≡ ltb 0 turns
+  pub quiet : r ≡ false → (k : ℕ) → k < i → joins_at (links_of t₀) e t.b.marks k ≡ false
 
 -- no block joins any more
-pub record Settled (w : Links) (e : ℕ) (m₀ m : List ℕ) : Type 0 where
+pub record Settled (e : ℕ) (t₀ t : Graph) : Type 0 where
+  pub same : t ≡ with_marks t₀ t.b.marks
   pub turns : ℕ
-  pub cools : Cools w e m₀ turns m
-  pub sized : length m ≡ blocks
-  pub quiet : (i : ℕ) → i < w.blocks → joins_at w e m i ≡ false
+  pub cools : Cools (links_of t₀) e t₀.b.marks turns t.b.marks
+  pub sized : length t.b.marks ≡ blocks
+  pub quiet : (i : ℕ) → i < t₀.blocks → joins_at (links_of t₀) e t.b.marks i ≡ false

@@ -5,260 +5,141 @@
 
 pub mod ways;
 
-ghost use Rattle.std.specs.Prelude.{◌≡◌, false, ◌+◌, ◌≤◌, ◌/◌, ◌%◌, length, take};
-ghost use Rattle.limits.specs.Limits.{blocks};
-ghost use Rattle.rules.specs.Graph.{is_cold};
-ghost use Rattle.cold.specs.Sides.{any_cold, splits_by, on_side, Gathered};
-ghost use Rattle.cold.specs.Ways.{links, Linked};
+ghost use Rattle.std.specs.Prelude.{◌≡◌, None, ◌+◌, ◌≤◌, length, get_or};
+ghost use Rattle.limits.specs.Limits.{numbers, most_arms, blocks};
+ghost use Rattle.rules.specs.Lists.{pick};
+ghost use Rattle.rules.specs.Graph.{is_cold, entry};
+ghost use Rattle.rules.specs.Split.{splits};
+ghost use Rattle.records.specs.Tables.{tabled, in_order, Stands, Sound};
+ghost use Rattle.cold.specs.Sides.{any_cold, on_side, Gathered, Divides, Parted};
 ghost use Rattle.cold.specs.Sweeps.{joining, Chills, Chilled, Sweeps, Swept, Settled};
-ghost use Rattle.cold.specs.Lent.{Spreads, SpreadTo, Divides, PartedBy};
+ghost use Rattle.cold.specs.Spreading.{SpreadTo};
 
-use limits::{ARMS, BLOCKS};
-use records::{Order, entry};
+use limits::BLOCKS;
+use records::{Blocks, Graph, Order, bits};
+use ways::Ways;
 
-// An order with the cold blocks last, and where they start: BLOCKS where nothing is split.
+// An order with the cold blocks last, and where they start, if it is split.
 #[derive(Drop)]
 pub struct Parts {
     pub order: Order,
-    pub split: usize,
+    pub split: Option<usize>,
 }
 
-// 1 for a cold block, 0 for a warm one.
-fn side_of(marks: u8) -> u8
-    ensures { result ≡ marks / 2 % 2 }
-{
-    marks / 2 % 2
-}
-
+// By the name that the rules give it: a call with the bit is no plainer.
+#[tactic(auto, unfolding(rules::specs::Graph::is_cold))]
 pub fn is_cold(marks: u8) -> bool
     ensures { result ≡ is_cold marks }
 {
-    side_of(marks) == 1
+    bits::has_mark(marks, bits::COLD)
 }
 
-// The marks of a warm block, with mark 1.
-fn cold_marks(marks: u8) -> u8
-    requires { is_cold marks ≡ false }
-    ensures { result ≡ marks + 2 }
+fn any_cold(g: &Graph) -> bool
+    requires { g.now.blocks ≤ blocks }
+    ensures { result ≡ any_cold g.now }
 {
-    marks + 2
+    g.b.listed[..g.blocks]
+        .iter()
+        .any(|&k| is_cold(g.b.marks_of(k)))
 }
 
-// Whether one of the first n listed blocks is cold.
-fn any_cold<'a>(listed: &'a [u16; BLOCKS], marks: &'a [u8; BLOCKS], n: usize) -> bool
-    requires { (n ≤ blocks) × (length listed.now ≡ blocks) × (length marks.now ≡ blocks) }
-    ensures { result ≡ any_cold listed.now marks.now n }
+// The entry of a graph that is split: it is warm, and some block is cold.
+fn splits(g: &Graph) -> Option<u16>
+    requires { Stands numbers most_arms g.now (tabled g.now) }
+    ensures { result ≡ pick (splits (tabled g.now)) (entry (tabled g.now)) None }
 {
-    let mut i: usize = 0;
-    while i < n {
-        let k = listed[i];
-        if is_cold(lists::byte_of(marks, k)) {
-            return true;
+    g.entry()
+        .filter(|&e| !is_cold(g.b.marks_of(e)) && any_cold(g))
+}
+
+// The blocks of an order that are cold, or those that are not, put behind the blocks of `out`.
+fn gather(b: &Blocks, o: &Order, cold: bool, out: &mut Order)
+    requires len_le_blocks { o.now.len ≤ blocks }
+    requires block_bound { out.old.len + length (on_side b.now.marks cold (in_order o.now)) ≤ blocks }
+    ensures { Gathered (on_side b.now.marks cold (in_order o.now)) out.old out.new }
+{
+    for &k in &o.block[..o.len] {
+        if is_cold(b.marks_of(k)) == cold {
+            out.block[out.len] = k;
+            out.len += 1;
         }
-        i = i + 1;
     }
-    false
-}
-
-// Whether there is a warm entry and a cold block; an entry of BLOCKS is none.
-fn splits<'a>(listed: &'a [u16; BLOCKS], marks: &'a [u8; BLOCKS], n: usize, entry: usize) -> bool
-    requires { (n ≤ blocks) × (length listed.now ≡ blocks) × (length marks.now ≡ blocks) }
-    ensures { result ≡ splits_by listed.now marks.now n entry }
-{
-    if BLOCKS <= entry {
-        return false;
-    }
-    if is_cold(marks[entry]) {
-        return false;
-    }
-    any_cold(listed, marks, n)
-}
-
-// The blocks of an order on one side, put behind the first `at` of `out`; how many those are together.
-fn gather<'a>(
-    block: &'a [u16; BLOCKS],
-    marks: &'a [u8; BLOCKS],
-    len: usize,
-    side: u8,
-    at: usize,
-    out: &mut [u16; BLOCKS],
-) -> usize
-    requires len_le_blocks { (len ≤ blocks) × (length block.now ≡ blocks) × (length marks.now ≡ blocks) × (length out.old ≡ blocks) }
-    requires block_bound { at + length (on_side marks.now side (take len block.now)) ≤ blocks }
-    ensures { Gathered marks.now (take len block.now) side at out.old out.new result }
-{
-    let mut to = at;
-    let mut i: usize = 0;
-    while i < len {
-        let k = block[i];
-        if side_of(lists::byte_of(marks, k)) == side {
-            out[to] = k;
-            to = to + 1;
-        }
-        i = i + 1;
-    }
-    to
 }
 
 // "Warm, then cold, each in order", where there is a warm entry and a cold block; else the order as it is.
-pub fn partition<'a>(
-    listed: &'a [u16; BLOCKS],
-    marks: &'a [u8; BLOCKS],
-    n: usize,
-    o: Order,
-) -> Parts
-    requires { Divides listed.now marks.now n o }
-    ensures { PartedBy listed.now marks.now n o result }
+pub fn partition(g: &Graph, o: Order) -> Parts
+    requires { Divides g.now o }
+    ensures { Parted g.now o result }
 {
-    let block = o.block;
-    let len = o.len;
-    let e = entry::find(listed, marks, n);
-    if splits(listed, marks, n, e) {
-        let mut out = [0; BLOCKS];
-        let split = gather(&block, marks, len, 0, 0, &mut out);
-        let end = gather(&block, marks, len, 1, split, &mut out);
+    if splits(g).is_none() {
         return Parts {
-            order: Order {
-                block: out,
-                len: end,
-            },
-            split,
+            order: o,
+            split: None,
         };
     }
-    Parts {
-        order: Order { block, len },
-        split: BLOCKS,
-    }
+    let mut order = Order {
+        block: [0; BLOCKS],
+        len: 0,
+    };
+    gather(&g.b, &o, false, &mut order);
+    let split = Some(order.len);
+    gather(&g.b, &o, true, &mut order);
+    Parts { order, split }
 }
 
-// Whether a block joins the cold ones: it is not the entry and not cold, and its arms in, at least one, are all from
+// Whether block k joins the cold ones: it is not the entry and not cold, and its arms in, at least one, are all from
 // cold blocks.
 #[tactic(auto, unfolding(crate::specs::Sweeps::joining))]
-fn joins(k: usize, entry: usize, marks: u8, ins: u16, cold: u16) -> bool
-    ensures { result ≡ joining k entry marks ins cold }
+fn joins(g: &Graph, ways: &Ways, entry: u16, k: u16) -> bool
+    ensures { result ≡ joining k entry (get_or g.now.b.marks k 0) (get_or ways.now.ins k 0) (get_or ways.now.cold k 0) }
 {
-    if k == entry {
-        return false;
-    }
-    if is_cold(marks) {
-        return false;
-    }
-    if 0 < ins {
-        return ins == cold;
-    }
-    false
+    let ins = lists::at(&ways.ins, k, 0);
+    let cold = lists::at(&ways.cold, k, 0);
+    k != entry && !is_cold(g.b.marks_of(k)) && 0 < ins && ins == cold
 }
 
-// Block k turned cold, if it joins: its mark, and its arms counted among those from cold blocks. How many turned.
-fn chill<'a>(
-    first: &'a [u16; BLOCKS],
-    count: &'a [u16; BLOCKS],
-    to: &'a [u16; ARMS],
-    ins: &'a [u16; BLOCKS],
-    k: u16,
-    entry: usize,
-    marks: &mut [u8; BLOCKS],
-    cold: &mut [u16; BLOCKS],
-) -> usize
-    requires { Chills first.now count.now to.now k marks.old cold.old }
-    ensures { Chilled first.now count.now to.now ins.now k entry marks.old marks.new cold.old cold.new result }
+// Block k turned cold, if it joins: its mark, and its arms counted among those from cold blocks. Whether it turned.
+fn chill(g: &mut Graph, ways: &mut Ways, entry: u16, k: u16) -> bool
+    requires { Chills g.old k ways.old }
+    ensures { Chilled g.old ways.old k entry g.new ways.new result }
 {
-    let b = lists::wide(k);
-    let m = marks[b];
-    if joins(b, entry, m, ins[b], cold[b]) {
-        marks[b] = cold_marks(m);
-        let f = lists::entry_of(first, k);
-        let c = lists::entry_of(count, k);
-        ways::add_arms(to, f, c, cold);
-        return 1;
+    let turns = joins(g, ways, entry, k);
+    if turns {
+        g.b.marks[k as usize] += 2;
+        ways::add_arms(&g.a, k, &mut ways.cold);
     }
-    0
+    turns
 }
 
-// One sweep over the listed blocks, in place: how many joined the cold ones.
-fn sweep<'a>(
-    listed: &'a [u16; BLOCKS],
-    first: &'a [u16; BLOCKS],
-    count: &'a [u16; BLOCKS],
-    to: &'a [u16; ARMS],
-    ins: &'a [u16; BLOCKS],
-    n: usize,
-    entry: usize,
-    marks: &mut [u8; BLOCKS],
-    cold: &mut [u16; BLOCKS],
-) -> usize
-    requires { Sweeps (links listed.now first.now count.now to.now n) ins.now marks.old cold.old }
-    ensures { Swept (links listed.now first.now count.now to.now n) entry marks.old n result marks.new cold.new }
+// One sweep over the listed blocks, in place: whether one joined the cold ones.
+fn sweep(g: &mut Graph, ways: &mut Ways, entry: u16) -> bool
+    requires { Sweeps g.old ways.old }
+    ensures { Swept entry g.old g.old.blocks g.new ways.new result }
 {
-    let mut joined: usize = 0;
-    let mut i: usize = 0;
-    while i < n {
-        let k = listed[i];
-        let one = chill(first, count, to, ins, k, entry, marks, cold);
-        joined = joined + one;
-        i = i + 1;
+    let mut joined = false;
+    for i in 0..g.blocks {
+        let k = g.b.listed[i];
+        joined |= chill(g, ways, entry, k);
     }
     joined
 }
 
-// Sweeps until one changes nothing.
-fn settle<'a>(
-    listed: &'a [u16; BLOCKS],
-    first: &'a [u16; BLOCKS],
-    count: &'a [u16; BLOCKS],
-    to: &'a [u16; ARMS],
-    ins: &'a [u16; BLOCKS],
-    n: usize,
-    entry: usize,
-    marks: &mut [u8; BLOCKS],
-    cold: &mut [u16; BLOCKS],
-)
-    requires { Sweeps (links listed.now first.now count.now to.now n) ins.now marks.old cold.old }
-    ensures { Settled (links listed.now first.now count.now to.now n) entry marks.old marks.new }
+// Every block that joins turned cold: sweeps until one changes nothing.
+fn cool(g: &mut Graph, entry: u16)
+    requires { Sound g.old }
+    ensures { Settled entry g.old g.new }
 {
-    loop {
-        let joined = sweep(listed, first, count, to, ins, n, entry, marks, cold);
-        if joined == 0 {
-            return;
-        }
-    }
-}
-
-// Every block that joins turned cold, by counts made afresh.
-fn cool<'a>(
-    listed: &'a [u16; BLOCKS],
-    first: &'a [u16; BLOCKS],
-    count: &'a [u16; BLOCKS],
-    to: &'a [u16; ARMS],
-    n: usize,
-    entry: usize,
-    marks: &mut [u8; BLOCKS],
-)
-    requires { Linked (links listed.now first.now count.now to.now n) × (length marks.old ≡ blocks) }
-    ensures { Settled (links listed.now first.now count.now to.now n) entry marks.old marks.new }
-{
-    let mut ins = [0; BLOCKS];
-    let mut cold = [0; BLOCKS];
-    ways::count_ins(listed, first, count, to, n, &mut ins);
-    ways::count_cold(listed, marks, first, count, to, n, &mut cold);
-    settle(listed, first, count, to, &ins, n, entry, marks, &mut cold);
+    let mut ways = Ways::count(g);
+    while sweep(g, &mut ways, entry) {}
 }
 
 // "What only cold blocks lead to is cold": with a warm entry and some cold block, a block that is not the entry gets
 // mark 1 where all its arms in, at least one, come from cold blocks. Else the marks stay as they are.
-pub fn spread<'a>(
-    listed: &'a [u16; BLOCKS],
-    first: &'a [u16; BLOCKS],
-    count: &'a [u16; BLOCKS],
-    to: &'a [u16; ARMS],
-    n: usize,
-    marks: &mut [u8; BLOCKS],
-)
-    requires { Spreads listed.now marks.old first.now count.now to.now n }
-    ensures { SpreadTo listed.now marks.old first.now count.now to.now n marks.new }
+pub fn spread(g: &mut Graph)
+    requires { Sound g.old }
+    ensures { SpreadTo g.old g.new }
 {
-    let e = entry::find(listed, marks, n);
-    if splits(listed, marks, n, e) {
-        cool(listed, first, count, to, n, e, marks);
+    if let Some(e) = splits(g) {
+        cool(g, e);
     }
 }

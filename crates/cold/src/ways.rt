@@ -1,80 +1,44 @@
-// Arms into each block, counted by block number: all of them, and those from cold blocks.
-ghost use Rattle.std.specs.Prelude.{◌≡◌, cond, ℕ, ◌+◌, ◌≤◌, ◌<◌, length, get_or};
-ghost use Rattle.limits.specs.Limits.{blocks, arms};
-ghost use Rattle.rules.specs.Graph.{is_cold};
-ghost use Rattle.rules.proofs.Membership.{In};
-ghost use Rattle.rules.proofs.Counting as counting;
-ghost use Rattle.cold.specs.Ways.{most_count, links, toward, ins, cold_ins, Linked, Added, Counts};
+// The arms into each block, counted by block number: all of them, and those from cold blocks.
+ghost use Rattle.std.specs.Prelude.{◌≡◌};
+ghost use Rattle.cold.specs.Ways.{outs, links_of, Linked, Adds, Added, Counted};
 
 use crate::is_cold;
-use limits::{ARMS, BLOCKS};
+use limits::BLOCKS;
+use records::{Arms, Graph};
 
-// One more for each of `count` arms, from arm `first` on, at the block that it goes to.
-pub fn add_arms(to: &[u16; ARMS], first: usize, count: usize, table: &mut [u16; BLOCKS])
-    requires count_bound { (first + count ≤ arms) × (length table.old ≡ blocks) × ((k : ℕ) → In k (toward to.now first count) → k < blocks) }
-    requires by_index { (k : ℕ) → get_or table.old k 0 + counting.count k (toward to.now first count) ≤ most_count }
-    ensures { Added (toward to.now first count) table.old table.new }
+#[derive(Drop)]
+pub struct Ways {
+    pub ins: [u16; BLOCKS],
+    pub cold: [u16; BLOCKS],
+}
+
+// One more for each arm of block k, at the block that it goes to.
+pub fn add_arms(a: &Arms, k: u16, table: &mut [u16; BLOCKS])
+    requires { Adds a.now k table.old }
+    ensures { Added (outs a.now k) table.old table.new }
 {
-    let mut j: usize = 0;
-    while j < count {
-        let k = lists::wide(to[first + j]);
-        table[k] = table[k] + 1;
-        j = j + 1;
+    let first = a.first_of(k);
+    for &to in &a.to[first..first + a.count_of(k)] {
+        table[to as usize] += 1;
     }
 }
 
-// The arms into each block from the first n listed ones; the table is zero before.
-pub fn count_ins<'a>(
-    listed: &'a [u16; BLOCKS],
-    first: &'a [u16; BLOCKS],
-    count: &'a [u16; BLOCKS],
-    to: &'a [u16; ARMS],
-    n: usize,
-    table: &mut [u16; BLOCKS],
-)
-    requires linked { Linked (links listed.now first.now count.now to.now n) }
-    requires counts { Counts table.old (λ (k : ℕ). 0) }
-    ensures { Counts table.new (ins (links listed.now first.now count.now to.now n) n) }
-{
-    let mut i: usize = 0;
-    while i < n {
-        let k = listed[i];
-        add_arms(
-            to,
-            lists::entry_of(first, k),
-            lists::entry_of(count, k),
-            table,
-        );
-        i = i + 1;
-    }
-}
-
-// How many of a block's arms leave a cold block: all or none.
-fn cold_arms(marks: u8, count: usize) -> usize
-    ensures { result ≡ cond (is_cold marks) count 0 }
-{
-    if is_cold(marks) { count } else { 0 }
-}
-
-// The arms into each block from the cold ones of the first n listed; the table is zero before.
-pub fn count_cold<'a>(
-    listed: &'a [u16; BLOCKS],
-    marks: &[u8; BLOCKS],
-    first: &'a [u16; BLOCKS],
-    count: &'a [u16; BLOCKS],
-    to: &'a [u16; ARMS],
-    n: usize,
-    table: &mut [u16; BLOCKS],
-)
-    requires linked { Linked (links listed.now first.now count.now to.now n) × (length marks.now ≡ blocks) }
-    requires counts { Counts table.old (λ (k : ℕ). 0) }
-    ensures { Counts table.new (cold_ins (links listed.now first.now count.now to.now n) marks.now n) }
-{
-    let mut i: usize = 0;
-    while i < n {
-        let k = listed[i];
-        let c = cold_arms(lists::byte_of(marks, k), lists::entry_of(count, k));
-        add_arms(to, lists::entry_of(first, k), c, table);
-        i = i + 1;
+impl Ways {
+    pub fn count(g: &Graph) -> Self
+        requires { Linked (links_of g.now) }
+        ensures { Counted (links_of g.now) g.now.b.marks g.now.blocks result }
+    {
+        let mut ways = Ways {
+            ins: [0; BLOCKS],
+            cold: [0; BLOCKS],
+        };
+        for i in 0..g.blocks {
+            let k = g.b.listed[i];
+            add_arms(&g.a, k, &mut ways.ins);
+            if is_cold(g.b.marks_of(k)) {
+                add_arms(&g.a, k, &mut ways.cold);
+            }
+        }
+        ways
     }
 }

@@ -5,10 +5,11 @@ use mathlib.Core.Path.{◌≡◌, refl, sym, ap, ap₂, ◌∙◌, subst}
 use mathlib.Core.Bool.{Bool, true, false, cond, ◌||◌}
 use mathlib.Core.Logic.{◌⊎◌, inl, inr, ⊎_elim}
 use mathlib.Core.List.{List, [], ◌∷◌, ◌++◌, map, reverse, reverse-cons, append_assoc, append-nil}
-use mathlib.Core.Option.{none, some}
+use Rattle.std.specs.Prelude.{Option, None, Some}
+use Rattle.std.specs.Option.{option_map}
 use lib.Dec.{eqb}
-use lib.ListN.{length, get_or, take}
-use lib.Seq.{slice, get_or-take, length-take-le}
+use lib.ListN.{length, get_or}
+use lib.Seq.{slice, length-slice}
 use borrow.Author.Tests.{eq-eqb, ne_eqb}
 use Rattle.limits.specs.Limits.{blocks}
 use Rattle.lists.proofs.Choices.{split_lt}
@@ -20,17 +21,18 @@ use Rattle.rules.specs.Join.{looser, links, next_trace}
 use Rattle.rules.proofs.Membership.{In, map_append}
 use Rattle.rules.proofs.JoinEnd.{Follows, stops, goes}
 use Rattle.records.specs.declared.Graph.{Graph}
-use Rattle.records.specs.Tables.{tabled}
-use Rattle.marks.specs.Sets.{room, member, size}
+use Rattle.records.specs.declared.Order.{Order}
+use Rattle.records.specs.Tables.{tabled, in_order, Sound}
+use Rattle.marks.specs.Sets.{member, size}
 use Rattle.marks.proofs.SetLaws.{eqb_turn, size_room, size_more}
-use Rattle.flow.specs.Lent.{Flows, Of, Marks}
+use Rattle.flow.specs.Lent.{Marks}
+use Rattle.flow.proofs.PartLaws.{get_in, last_get}
 use Rattle.connect.specs.declared.Link.{Link}
-use Rattle.connect.specs.declared.Next.{Next}
-use Rattle.connect.specs.declared.Next.TheVariants.{Trace, Nothing}
-use Rattle.connect.specs.Joined.{begin_of, traces_in}
-use Rattle.connect.specs.Links.{link_in, link_of, Found, Unused, BestBy}
+use Rattle.connect.specs.declared.Traces.{Traces}
+use Rattle.connect.specs.Joined.{begin_of, end_of, all_blocks, all_traces, Stretch, AllOf}
+use Rattle.connect.specs.Links.{link_in, Headed, Unused, BestBy}
 use Rattle.connect.specs.Following.{laid_in, laid_of, Places, Begins, Laid, Followed}
-use Rattle.connect.proofs.TraceLaws.{ends_low, ends_many, trace_at, last_of, at_in}
+use Rattle.connect.proofs.TraceLaws.{ends_low, ends_many, trace_at, part_in}
 
 -- ---- how many blocks the used traces have
 module _ (ends : List ℕ) where
@@ -97,160 +99,142 @@ marks_more set more l k w h n = w n ∙ ap₂ ◌||◌ (eqb_turn n k) (h n)
 
 -- ---- a step by the rules, taken apart
 module _ {g : graph.Graph} {ts : List (List ℕ)} where
-  stops_at : {l : List ℕ} {i : ℕ} {v : List ℕ} → Follows g ts l i v → next_trace g ts (i ∷ l) i ≡ none → i ∷ l ≡ v
+  stops_at : {l : List ℕ} {i : ℕ} {v : List ℕ} → Follows g ts l i v → next_trace g ts (i ∷ l) i ≡ None → i ∷ l ≡ v
   stops_at (stops _ _ e) q = refl
   stops_at (goes _ _ x _ e f) q = absurd (let z : ◌≡◌ {A = ℕ} 0 1 = cc in omega arith)
 
-  goes_on : {l : List ℕ} {i : ℕ} {v : List ℕ} → Follows g ts l i v → (k : join.Link) → next_trace g ts (i ∷ l) i ≡ some k → Follows g ts (i ∷ l) k.index v
+  goes_on : {l : List ℕ} {i : ℕ} {v : List ℕ} → Follows g ts l i v → (k : join.Link) → next_trace g ts (i ∷ l) i ≡ Some k → Follows g ts (i ∷ l) k.index v
   goes_on (stops _ _ e) k q = absurd (let z : ◌≡◌ {A = ℕ} 0 1 = cc in omega arith)
   goes_on (goes l i x v e f) k q = let z : x ≡ k = cc in subst (λ (y : join.Link). Follows g ts (i ∷ l) y.index v) z f
 
 -- ---- trace `at` can be laid
-module _ (order ends head used block : List ℕ) (len at found : ℕ) (b : Begins order ends head used block len at found) where
-  pub few : found ≤ blocks
-  few = omega (arith, ends_many ends found b.joinable.rising, b.joinable.last)
+module _ (f : Traces) (sized : length f.order ≡ blocks) (head : List (Option ℕ)) (used : List ℕ) (o : Order) (at : ℕ) (b : Begins f head used o at) where
+  pub few : f.len ≤ blocks
+  few = omega (arith, ends_many f.ends f.len b.joinable.rising, b.joinable.last)
 
-  pub some_blocks : begin_of ends at < get_or ends at 0
-  some_blocks = b.joinable.rising at b.goes.one
-
-  pub within : get_or ends at 0 ≤ begin_of ends found
-  within = ends_low ends found b.joinable.rising at b.goes.one
-
-  -- the sets that it is found by
-  pub found_by : (more : List ℕ) → length more ≡ room → Found ends head more
-  found_by more e = record {
-    ends_sized = b.joinable.ends_sized;
-    head_sized = b.heads.head_sized;
-    used_sized = e;
-    headed = λ n k i. let l = b.heads.below n k i in (omega (arith, l, few), b.joinable.rising k l);
+  -- the traces lie within the order
+  pub stretch : (k : ℕ) → k < f.len → Stretch f.ends k
+  stretch k h = record {
+    one = omega (arith, h, few);
+    rises = b.joinable.rising k h;
+    within = omega (arith, ends_low f.ends f.len b.joinable.rising k h, b.joinable.last);
   }
 
-  -- its last block
-  last : ℕ
-  last = get_or order (get_or ends at 0 - 1) 0
+  pub headed : Headed f.ends head
+  headed n k i = stretch k (b.heads.below n k i)
 
-  last_is : last_or blocks (get_or (traces_in order ends found) at []) ≡ last
-  unfolding last
-  last_is =
-      ap (last_or blocks) (trace_at order ends found at b.goes.one)
-      ∙ last_of blocks order (begin_of ends at) (get_or ends at 0) some_blocks (omega (arith, within, b.joinable.last, b.joinable.order_sized))
+  module _ (trace : List ℕ) (is : trace ≡ slice (begin_of f.ends at) (end_of f.ends at) f.order) where
+    long : length trace ≡ end_of f.ends at - begin_of f.ends at
+    long = ap length is ∙ length-slice (begin_of f.ends at) (end_of f.ends at) f.order (omega (arith, (stretch at b.one).within, sized))
 
-  last_in : In last (take (begin_of ends found) order)
-  unfolding last
-  last_in =
-      let all = begin_of ends found in
-      let i = get_or ends at 0 - 1 in
-      let l : i < all = omega (arith, within, some_blocks) in
-      subst (λ (n : ℕ). In n (take all order)) (get_or-take all order i 0 l)
-      (at_in (take all order) i (omega (arith, length-take-le all order (omega (arith, b.joinable.last, b.joinable.order_sized)), l)))
+    pub some_block : 0 < length trace
+    some_block = omega (arith, long, b.joinable.rising at b.one)
 
-  module _ (used' : List ℕ) (marked : (m : ℕ) → member used' m ≡ eqb m at || member used m) where
-    more_used : size used' ≡ suc (size used)
-    more_used = size_more used used' at (omega (arith, b.goes.one, few)) b.goes.free marked
+    -- its last block
+    abbrev last : ℕ
+    last = get_or trace (length trace - 1) 0
 
-    pub fewer_left : blocks - size used' < blocks - size used
-    fewer_left = omega (arith, more_used, size_room used at (omega (arith, b.goes.one, few)) b.goes.free)
+    last_is : last_or blocks (get_or (all_traces f) at []) ≡ last
+    last_is = ap (last_or blocks) (trace_at f.order f.ends f.len at b.one ∙ sym is) ∙ last_get blocks trace some_block
 
-    more_laid : laid_in ends used' found ≡ len + (get_or ends at 0 - begin_of ends at)
-    more_laid = omega (arith, laid_more ends used used' at found b.goes.one b.goes.free marked, b.places.len_is)
+    last_in : In last (all_blocks f)
+    last_in =
+        part_in last (begin_of f.ends at) (end_of f.ends at) (begin_of f.ends f.len) f.order (ends_low f.ends f.len b.joinable.rising at b.one)
+        (subst (In last) is (get_in trace (length trace - 1) (omega (arith, some_block))))
 
-    pub room_for : len + (get_or ends at 0 - begin_of ends at) ≤ blocks
-    room_for = omega (arith, more_laid, laid_most ends used' found b.joinable.rising, b.joinable.last)
+    module _ (used' : List ℕ) (marked : (m : ℕ) → member used' m ≡ eqb m at || member used m) where
+      pub fewer_left : blocks - size used' < blocks - size used
+      fewer_left = omega (arith, size_more used used' at (omega (arith, b.one, few)) b.free marked, size_room used at (omega (arith, b.one, few)) b.free)
 
-    -- it is laid
-    module _ (block' : List ℕ) (r : ℕ) (long : r ≡ len + (get_or ends at 0 - begin_of ends at)) (is : take r block' ≡ take len block ++ slice (begin_of ends at) (get_or ends at 0) order) where
-      placed : length used' ≡ room → length block' ≡ blocks → Places ends used' block' r found
-      placed u v = record { used_sized = u; block_sized = v; len_is = long ∙ sym more_laid }
+      more_laid : laid_in f.ends used' f.len ≡ o.len + length trace
+      more_laid = omega (arith, laid_more f.ends used used' at f.len b.one b.free marked, b.places, long)
 
-      laid_too : (l : List ℕ) → Laid (traces_in order ends found) used block len l → Laid (traces_in order ends found) used' block' r (at ∷ l)
-      laid_too l k = record {
-        used_are = marks_more used used' l at marked k.used_are;
-        block_is =
-            is ∙ ap₂ ◌++◌ k.block_is (sym (trace_at order ends found at b.goes.one)) ∙ sym (laid_of_lem (traces_in order ends found) l at);
-      }
+      pub room_for : o.len + length trace ≤ blocks
+      room_for = omega (arith, more_laid, laid_most f.ends used' f.len b.joinable.rising, b.joinable.last)
 
-    -- what follows it by the tables follows it by the rules
-    next_is : {t : Graph} {marks weight first count to heft : List ℕ} → Flows t marks weight first count to heft → ((n : ℕ) → In n (take (begin_of ends found) order) → Of t n) →
-        (x : Next) → BestBy marks first count to heft ends head used' last x → (l : List ℕ) → Marks used l → link_of x ≡ next_trace (tabled t) (traces_in order ends found) (at ∷ l) at
-    unfolding next_trace
-    next_is {t} {weight = weight} k of x h l m =
-        h t weight k (of last last_in) (traces_in order ends found) b.heads.starts (at ∷ l) (marks_more used used' l at marked m)
-        ∙ ap (λ (n : ℕ). best looser none (links (tabled t) (traces_in order ends found) (at ∷ l) (cold_at (tabled t) n) (graph.block_at (tabled t) n).arms)) (sym last_is)
+      -- what follows it by the tables follows it by the rules
+      next_is : {g : Graph} → Sound g → AllOf g f → (x : Option Link) → BestBy g f.ends head used' last x → (l : List ℕ) → Marks used l → option_map link_in x ≡ next_trace (tabled g) (all_traces f) (at ∷ l) at
+      unfolding next_trace
+      next_is {g} k all x h l m =
+          h k (all last last_in) (all_traces f) b.heads.starts (at ∷ l) (marks_more used used' l at marked m)
+          ∙ ap (λ (n : ℕ). best looser None (links (tabled g) (all_traces f) (at ∷ l) (cold_at (tabled g) n) (graph.block_at (tabled g) n).arms)) (sym last_is)
+
+      -- it is laid
+      module _ (o' : Order) (behind : in_order o' ≡ in_order o ++ trace) where
+        placed : o'.len ≡ o.len + length trace → Places f used' o'
+        placed e = e ∙ sym more_laid
+
+        laid_too : (l : List ℕ) → Laid (all_traces f) used o l → Laid (all_traces f) used' o' (at ∷ l)
+        laid_too l k = record {
+          used_are = marks_more used used' l at marked k.used_are;
+          block_is = behind ∙ ap₂ ◌++◌ k.block_is (is ∙ sym (trace_at f.order f.ends f.len at b.one)) ∙ sym (laid_of_lem (all_traces f) l at);
+        }
 
 -- ---- on the way: trace `at` is next, and what the rules lay from it on is what they lay from trace `from` on
-pub record Along (marks first count to heft order ends head used₀ block₀ : List ℕ) (len from : ℕ) (used block : List ℕ) (laid at found : ℕ) : Type 0 where
-  pub begins : Begins order ends head used block laid at found
+pub record Along (g : Graph) (f : Traces) (head : List (Option ℕ)) (used₀ : List ℕ) (o₀ : Order) (from : ℕ) (used : List ℕ) (o : Order) (at : ℕ) : Type 0 where
+  pub begins : Begins f head used o at
   pub kept : (m : ℕ) → member used₀ m ≡ true → member used m ≡ true
   pub passed : (member used from ≡ true) ⊎ (at ≡ from)
-  pub left : (t : Graph) (weight : List ℕ) → Flows t marks weight first count to heft → ((n : ℕ) → In n (take (begin_of ends found) order) → Of t n) →
-      (l v : List ℕ) → Laid (traces_in order ends found) used₀ block₀ len l → Follows (tabled t) (traces_in order ends found) l from v →
-      (k : List ℕ) × Laid (traces_in order ends found) used block laid k × Follows (tabled t) (traces_in order ends found) k at v
+  pub left : Sound g → AllOf g f → (l v : List ℕ) → Laid (all_traces f) used₀ o₀ l → Follows (tabled g) (all_traces f) l from v →
+      (k : List ℕ) × Laid (all_traces f) used o k × Follows (tabled g) (all_traces f) k at v
 
 or_true : (a b : Bool) → b ≡ true → a || b ≡ true
 or_true true b e = refl
 or_true false b e = e
 
-module _ (marks first count to heft order ends head used₀ block₀ : List ℕ) (len from found : ℕ) where
-  pub along_start : Begins order ends head used₀ block₀ len from found → Along marks first count to heft order ends head used₀ block₀ len from used₀ block₀ len from found
-  along_start b = record { begins = b; kept = λ m e. e; passed = inr refl; left = λ t weight k of l v h f. (l, h, f) }
+module _ (g : Graph) (f : Traces) (sized : length f.order ≡ blocks) (head : List (Option ℕ)) (used₀ : List ℕ) (o₀ : Order) (from : ℕ) where
+  pub along_start : Begins f head used₀ o₀ from → Along g f head used₀ o₀ from used₀ o₀ from
+  along_start b = record { begins = b; kept = λ m e. e; passed = inr refl; left = λ k all l v h f. (l, h, f) }
 
-  module _ (used block : List ℕ) (laid at : ℕ) (a : Along marks first count to heft order ends head used₀ block₀ len from used block laid at found)
-      (begin end : ℕ) (is_begin : begin ≡ begin_of ends at) (is_end : end ≡ get_or ends at 0)
-      (used' block' : List ℕ) (r : ℕ) (marked : (length used' ≡ room) × ((m : ℕ) → member used' m ≡ eqb m at || member used m))
-      (copied : ((r ≡ laid + (end - begin)) × (length block' ≡ blocks)) × (take r block' ≡ take laid block ++ slice begin end order))
-      (x : Next) (h : BestBy marks first count to heft ends head used' (get_or order (end - 1) 0) x) where
-    long : r ≡ laid + (get_or ends at 0 - begin_of ends at)
-    long = copied.0.0 ∙ ap₂ (λ (i j : ℕ). laid + (i - j)) is_end is_begin
-
-    is : take r block' ≡ take laid block ++ slice (begin_of ends at) (get_or ends at 0) order
-    is = copied.1 ∙ ap₂ (λ (i j : ℕ). take laid block ++ slice i j order) is_begin is_end
-
+  module _ (used : List ℕ) (o : Order) (at : ℕ) (a : Along g f head used₀ o₀ from used o at)
+      (trace : List ℕ) (is : trace ≡ slice (begin_of f.ends at) (end_of f.ends at) f.order)
+      (used' : List ℕ) (o' : Order) (marked : (m : ℕ) → member used' m ≡ eqb m at || member used m)
+      (behind : in_order o' ≡ in_order o ++ trace) (more : o'.len ≡ o.len + length trace)
+      (x : Option Link) (h : BestBy g f.ends head used' (get_or trace (length trace - 1) 0) x) where
     keeps : (m : ℕ) → member used₀ m ≡ true → member used' m ≡ true
-    keeps m e = marked.1 m ∙ or_true (eqb m at) (member used m) (a.kept m e)
+    keeps m e = marked m ∙ or_true (eqb m at) (member used m) (a.kept m e)
 
     from_used : member used' from ≡ true
     from_used =
-        ⊎_elim (λ e. marked.1 from ∙ or_true (eqb from at) (member used from) e) (λ e. marked.1 from ∙ ap (λ (c : Bool). c || member used from) (eq-eqb from at (sym e))) a.passed
+        ⊎_elim (λ e. marked from ∙ or_true (eqb from at) (member used from) e) (λ e. marked from ∙ ap (λ (c : Bool). c || member used from) (eq-eqb from at (sym e))) a.passed
 
-    all_placed : Places ends used' block' r found
-    all_placed = placed order ends head used block laid at found a.begins used' marked.1 block' r long is marked.0 copied.0.1
+    all_placed : Places f used' o'
+    all_placed = placed f sized head used o at a.begins trace is used' marked o' behind more
 
-    step : (t : Graph) (weight : List ℕ) → Flows t marks weight first count to heft → ((n : ℕ) → In n (take (begin_of ends found) order) → Of t n) →
-        (l v : List ℕ) → Laid (traces_in order ends found) used₀ block₀ len l → Follows (tabled t) (traces_in order ends found) l from v →
-        (k : List ℕ) × Laid (traces_in order ends found) used' block' r (at ∷ k) × (link_of x ≡ next_trace (tabled t) (traces_in order ends found) (at ∷ k) at) × Follows (tabled t) (traces_in order ends found) k at v
-    unfolding last
-    step t weight k of l v i f =
-        let e = a.left t weight k of l v i f in (
+    step : Sound g → AllOf g f → (l v : List ℕ) → Laid (all_traces f) used₀ o₀ l → Follows (tabled g) (all_traces f) l from v →
+        (k : List ℕ) × Laid (all_traces f) used' o' (at ∷ k) × (option_map link_in x ≡ next_trace (tabled g) (all_traces f) (at ∷ k) at) × Follows (tabled g) (all_traces f) k at v
+    step k all l v i w =
+        let e = a.left k all l v i w in (
           e.0,
-          laid_too order ends head used block laid at found a.begins used' marked.1 block' r long is e.0 e.1,
-          next_is order ends head used block laid at found a.begins used' marked.1 k of x (subst (λ (i : ℕ). BestBy marks first count to heft ends head used' (get_or order (i - 1) 0) x) is_end h) e.0 e.1.used_are,
+          laid_too f sized head used o at a.begins trace is used' marked o' behind e.0 e.1,
+          next_is f sized head used o at a.begins trace is used' marked k all x h e.0 e.1.used_are,
           e.2,
         )
 
-    pub along_stop : x ≡ Nothing → Followed marks first count to heft order ends used₀ block₀ len from found used' block' r
-    unfolding link_of
+    pub along_stop : x ≡ None → Followed g f used₀ o₀ from used' o'
     along_stop z = record {
       places = all_placed;
       laid = from_used;
       kept = keeps;
-      follows = λ t weight k of l v i f.
-          let s = step t weight k of l v i f in
-          subst (Laid (traces_in order ends found) used' block' r) (stops_at s.3 (sym s.2 ∙ ap link_of z)) s.1;
+      follows = λ k all l v i w.
+          let s = step k all l v i w in
+          subst (Laid (all_traces f) used' o') (stops_at s.3 (sym s.2 ∙ ap (option_map link_in) z)) s.1;
     }
 
-    pub along_next : (k : Link) → x ≡ Trace k → Unused head used' (link_of x) → Along marks first count to heft order ends head used₀ block₀ len from used' block' r k.index found
-    unfolding link_of link_in
+    pub along_next : (k : Link) → x ≡ Some k → Unused head used' (option_map link_in x) → Along g f head used₀ o₀ from used' o' k.index
+    unfolding link_in
     along_next k z n =
-        let o = subst (λ (y : Next). Unused head used' (link_of y)) z n in
+        let u = subst (λ (y : Option Link). Unused head used' (option_map link_in y)) z n in
         record {
           begins = record {
             joinable = a.begins.joinable;
             heads = a.begins.heads;
             places = all_placed;
-            goes = record { one = a.begins.heads.below o.1.0 k.index o.1.1; free = o.0 };
+            one = a.begins.heads.below u.1.0 k.index u.1.1;
+            free = u.0;
           };
           kept = keeps;
           passed = inl from_used;
-          left = λ t weight fl of l v i f.
-              let s = step t weight fl of l v i f in (at ∷ s.0, s.1, goes_on s.3 (link_in k) (sym s.2 ∙ ap link_of z));
+          left = λ e all l v i w.
+              let s = step e all l v i w in (at ∷ s.0, s.1, goes_on s.3 (link_in k) (sym s.2 ∙ ap (option_map link_in) z));
         }

@@ -5,20 +5,20 @@ use native.Mathlib.Omega.{arith}
 use mathlib.Core.Path.{◌≡◌, refl, sym, ap, ◌∙◌, subst}
 use mathlib.Core.Bool.{true, false}
 use mathlib.Core.List.{List, [], ◌∷◌}
+use Rattle.std.specs.Prelude.{Option}
 use lib.Dec.{T, T_not}
-use lib.ListN.{length, get_or, take, drop, drop_of_length-le}
+use lib.ListN.{get_or, drop, drop_of_length-le}
 use lib.Seq.{drop-cons}
-use Rattle.limits.specs.Limits.{blocks}
 use Rattle.lists.proofs.Choices.{split_lt}
 use Rattle.rules.specs.Lists.{any, concat, mem}
 use Rattle.rules.specs.Graph as graph
-use Rattle.rules.proofs.Membership.{In}
 use Rattle.rules.proofs.JoinEnd.{Follows, Connects, over, passed, from, join_ends}
 use Rattle.records.specs.declared.Graph.{Graph}
-use Rattle.records.specs.Tables.{tabled, in_order}
-use Rattle.marks.specs.Sets.{room, member}
-use Rattle.flow.specs.Lent.{Flows, Of}
-use Rattle.connect.specs.Joined.{begin_of, traces_in, Joinable, JoinedBy}
+use Rattle.records.specs.declared.Order.{Order}
+use Rattle.records.specs.Tables.{tabled, in_order, Sound}
+use Rattle.marks.specs.Sets.{member}
+use Rattle.connect.specs.declared.Traces.{Traces}
+use Rattle.connect.specs.Joined.{all_traces, Joinable, AllOf, JoinedBy}
 use Rattle.connect.specs.Following.{Heads, laid_of, Places, Begins, Laid, Followed}
 use Rattle.connect.proofs.TraceLaws.{traces_many}
 use Rattle.connect.proofs.FollowLaws.{laid_none, laid_all}
@@ -42,59 +42,57 @@ module _ {g : graph.Graph} {ts : List (List ℕ)} where
   free_next (from l i _ s u v h f c) t rest e m = let z : s ≡ rest = cc in (u, f, subst (λ (r : List (List ℕ)). Connects g ts u (i + 1) r v) z c)
 
 -- ---- the turn of trace `at`
-pub record Turn (marks first count to heft order ends : List ℕ) (found : ℕ) (used block : List ℕ) (len at : ℕ) : Type 0 where
-  pub places : Places ends used block len found
+pub record Turn (g : Graph) (f : Traces) (used : List ℕ) (o : Order) (at : ℕ) : Type 0 where
+  pub places : Places f used o
   pub before : (m : ℕ) → m < at → member used m ≡ true
-  pub left : (t : Graph) (weight : List ℕ) → Flows t marks weight first count to heft → ((n : ℕ) → In n (take (begin_of ends found) order) → Of t n) →
-      (v : List ℕ) → Connects (tabled t) (traces_in order ends found) [] 0 (traces_in order ends found) v →
-      (l : List ℕ) × Laid (traces_in order ends found) used block len l × Connects (tabled t) (traces_in order ends found) l at (drop at (traces_in order ends found)) v
+  pub left : Sound g → AllOf g f → (v : List ℕ) → Connects (tabled g) (all_traces f) [] 0 (all_traces f) v →
+      (l : List ℕ) × Laid (all_traces f) used o l × Connects (tabled g) (all_traces f) l at (drop at (all_traces f)) v
 
-module _ (marks first count to heft order ends : List ℕ) (found : ℕ) where
-  pub turn_first : (used block : List ℕ) → length used ≡ room → ((m : ℕ) → member used m ≡ false) → length block ≡ blocks → Turn marks first count to heft order ends found used block 0 0
-  unfolding laid_of concat mem any
-  turn_first used block u n b = record {
-    places = record { used_sized = u; block_sized = b; len_is = sym (laid_none ends used found n) };
+module _ (g : Graph) (f : Traces) where
+  pub turn_first : (used block : List ℕ) → ((m : ℕ) → member used m ≡ false) → Turn g f used (record { block = block; len = 0 }) 0
+  unfolding laid_of concat mem any in_order
+  turn_first used block n = record {
+    places = sym (laid_none f.ends used f.len n);
     before = λ m l. absurd (omega (arith, l));
-    left = λ t weight k of v c. ([], record { used_are = n; block_is = refl }, c);
+    left = λ k all v c. ([], record { used_are = n; block_is = refl }, c);
   }
 
-  module _ (used block : List ℕ) (len at : ℕ) (l : at < found) (s : Turn marks first count to heft order ends found used block len at) where
-    rest : drop at (traces_in order ends found) ≡ get_or (traces_in order ends found) at [] ∷ drop (at + 1) (traces_in order ends found)
-    rest = rw (add-one at) (drop-cons (traces_in order ends found) at [] (omega (arith, l, traces_many order ends found)))
+  module _ (used : List ℕ) (o : Order) (at : ℕ) (l : at < f.len) (s : Turn g f used o at) where
+    rest : drop at (all_traces f) ≡ get_or (all_traces f) at [] ∷ drop (at + 1) (all_traces f)
+    rest = rw (add-one at) (drop-cons (all_traces f) at [] (omega (arith, l, traces_many f.order f.ends f.len)))
 
     -- it is used already
-    pub turn_used : member used at ≡ true → Turn marks first count to heft order ends found used block len (at + 1)
+    pub turn_used : member used at ≡ true → Turn g f used o (at + 1)
     turn_used e = record {
       places = s.places;
       before = λ m i. split_lt m at (λ j. s.before m j) (λ j. let z : m ≡ at = omega (arith, i, j) in ap (member used) z ∙ e);
-      left = λ t weight k of v c.
-          let r = s.left t weight k of v c in (r.0, r.1, used_next r.2 _ _ rest (sym (r.1.used_are at) ∙ e));
+      left = λ k all v c.
+          let r = s.left k all v c in (r.0, r.1, used_next r.2 _ _ rest (sym (r.1.used_are at) ∙ e));
     }
 
     -- it can be laid
-    pub turn_begins : (head : List ℕ) → Joinable order ends found → Heads order ends found head → member used at ≡ false → Begins order ends head used block len at found
-    turn_begins head j h e = record { joinable = j; heads = h; places = s.places; goes = record { one = l; free = e } }
+    pub turn_begins : (head : List (Option ℕ)) → Joinable f → Heads f head → member used at ≡ false → Begins f head used o at
+    turn_begins head j h e = record { joinable = j; heads = h; places = s.places; one = l; free = e }
 
     -- it is laid, and what follows it
-    pub turn_laid : (used' block' : List ℕ) (r : ℕ) → member used at ≡ false → Followed marks first count to heft order ends used block len at found used' block' r → Turn marks first count to heft order ends found used' block' r (at + 1)
-    turn_laid used' block' r e f = record {
-      places = f.places;
-      before = λ m i. split_lt m at (λ j. f.kept m (s.before m j)) (λ j. let z : m ≡ at = omega (arith, i, j) in ap (member used') z ∙ f.laid);
-      left = λ t weight k of v c.
-          let q = s.left t weight k of v c in
+    pub turn_laid : (used' : List ℕ) (o' : Order) → member used at ≡ false → Followed g f used o at used' o' → Turn g f used' o' (at + 1)
+    turn_laid used' o' e w = record {
+      places = w.places;
+      before = λ m i. split_lt m at (λ j. w.kept m (s.before m j)) (λ j. let z : m ≡ at = omega (arith, i, j) in ap (member used') z ∙ w.laid);
+      left = λ k all v c.
+          let q = s.left k all v c in
           let n = free_next q.2 _ _ rest (sym (q.1.used_are at) ∙ e) in
-          (n.0, f.follows t weight k of q.0 n.0 q.1 n.1, n.2);
+          (n.0, w.follows k all q.0 n.0 q.1 n.1, n.2);
     }
 
   -- none is left
-  pub turns_over : (used block : List ℕ) (len at : ℕ) → Joinable order ends found → found ≤ at → Turn marks first count to heft order ends found used block len at
-      → JoinedBy marks first count to heft order ends found (record { block = block; len = len })
-  unfolding in_order laid_of
-  turns_over used block len at j e s t weight k of =
-      let ts = traces_in order ends found in
-      let v = join_ends (tabled t) ts in
-      let r = s.left t weight k of v.0 v.1 in
-      let end : drop at ts ≡ [] = drop_of_length-le ts {i = at} (omega (arith, e, traces_many order ends found)) in (
+  pub turns_over : (used : List ℕ) (o : Order) (at : ℕ) → Joinable f → f.len ≤ at → Turn g f used o at → JoinedBy g f o
+  unfolding laid_of
+  turns_over used o at j e s k all =
+      let ts = all_traces f in
+      let v = join_ends (tabled g) ts in
+      let r = s.left k all v.0 v.1 in
+      let end : drop at ts ≡ [] = drop_of_length-le ts {i = at} (omega (arith, e, traces_many f.order f.ends f.len)) in (
         r.1.block_is ∙ ap (laid_of ts) (over_at r.2 end) ∙ sym v.2,
-        s.places.len_is ∙ laid_all ends used found j.rising (λ m l. s.before m (omega (arith, l, e))),
+        s.places ∙ laid_all f.ends used f.len j.rising (λ m l. s.before m (omega (arith, l, e))),
       )

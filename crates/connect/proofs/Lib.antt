@@ -1,5 +1,5 @@
 pub mod TraceLaws
-pub mod LinkLaws
 pub mod HeadLaws
+pub mod LinkLaws
 pub mod FollowLaws
 pub mod JoinLaws

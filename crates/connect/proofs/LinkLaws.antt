@@ -1,14 +1,13 @@
 -- The trace that follows, arm by arm; and that the tables find it as the rules do. Assumes nothing.
 use Prim.Native.Nat.{ℕ, zero, suc, ◌+◌, ◌-◌, ◌≤◌, ◌<◌}
 use native.Mathlib.Omega.{arith}
-use mathlib.Core.Path.{◌≡◌, refl, sym, ap, ◌∙◌, subst}
+use mathlib.Core.Path.{◌≡◌, refl, sym, ap, ◌∙◌}
 use mathlib.Core.Bool.{Bool, true, false, not, cond, ◌&&◌, ◌||◌, beq, true≢false}
 use mathlib.Core.List.{List, ◌∷◌}
-use mathlib.Core.Option.{Option, none, some}
-use lib.Dec.{ltb}
+use Rattle.std.specs.Prelude.{Option, None, Some}
+use Rattle.std.specs.Option.{option_map}
 use lib.ListN.{get_or}
-use borrow.Author.Tests.{le-ltb, eq-eqb, ne_eqb}
-use Rattle.limits.specs.Limits.{blocks}
+use Rattle.lists.proofs.Choices.{split_bool}
 use Rattle.rules.specs.Lists.{best, mem}
 use Rattle.rules.specs.Graph as graph
 use Rattle.rules.specs.Graph.{is_cold, cold_at}
@@ -16,98 +15,37 @@ use Rattle.rules.specs.Join as join
 use Rattle.rules.specs.Join.{looser, links}
 use Rattle.records.specs.declared.Arms.{Arms}
 use Rattle.records.specs.declared.Graph.{Graph}
-use Rattle.records.specs.Tables.{arm_at, arms_from, tabled}
+use Rattle.records.specs.Tables.{arm_at, arms_from, leaves, tabled, Sound}
 use Rattle.marks.specs.Sets.{member}
-use Rattle.flow.specs.Lent.{Flows, Of, Marks}
-use Rattle.flow.proofs.LentLaws.{cold_at_lem, arms_at, goes_to, to_at, heft_at}
+use Rattle.flow.specs.Lent.{Of, Marks}
+use Rattle.flow.proofs.SoundLaws.{cold_is, arms_are, goes_on}
 use Rattle.connect.specs.declared.Link.{Link}
-use Rattle.connect.specs.declared.Next.{Next}
-use Rattle.connect.specs.declared.Next.TheVariants.{Trace, Nothing}
-use Rattle.connect.specs.Joined.{begin_of}
-use Rattle.connect.specs.Links.{link_in, link_of, tighter, trace_by, leads_by, start_by, Headed, Starts, Unused, BestBy}
-
--- ---- the order of two links, test by test
-or_none : (b : Bool) → b ≡ b || false
-or_none true = refl
-or_none false = refl
-
-module _ (a b : Link) where
-  pub looser_weight : (a.weight ≡ b.weight → ⊥) → ltb a.weight b.weight ≡ looser (link_in a) (link_in b)
-  unfolding looser link_in
-  looser_weight h = rw (ne_eqb a.weight b.weight h) (or_none (ltb a.weight b.weight))
-
-  module _ (e : a.weight ≡ b.weight) where
-    pub looser_long : (a.long ≡ b.long → ⊥) → ltb a.long b.long ≡ looser (link_in a) (link_in b)
-    unfolding looser link_in
-    looser_long h =
-        rw (eq-eqb a.weight b.weight e, le-ltb a.weight b.weight (omega (arith, e)), ne_eqb a.long b.long h) (or_none (ltb a.long b.long))
-
-    pub looser_index : a.long ≡ b.long → ltb b.index a.index ≡ looser (link_in a) (link_in b)
-    unfolding looser link_in
-    looser_index h =
-        rw (
-          eq-eqb a.weight b.weight e,
-          le-ltb a.weight b.weight (omega (arith, e)),
-          eq-eqb a.long b.long h,
-          le-ltb a.long b.long (omega (arith, h)),
-        )
-        refl
-
--- ---- the better of two links
-module _ (o x : Next) where
-  pub no_other : x ≡ Nothing → link_of o ≡ tighter (link_of o) (link_of x)
-  unfolding link_of tighter
-  no_other e = rw e refl
-
-  module _ (b : Link) (is_b : x ≡ Trace b) where
-    pub no_best : o ≡ Nothing → link_of x ≡ tighter (link_of o) (link_of x)
-    unfolding link_of tighter
-    no_best e = rw (e, is_b) refl
-
-    module _ (a : Link) (is_a : o ≡ Trace a) where
-      pub other_one : true ≡ looser (link_in a) (link_in b) → link_of x ≡ tighter (link_of o) (link_of x)
-      unfolding link_of tighter
-      other_one h = rw (is_a, is_b) (go (looser (link_in a) (link_in b)) h)
-        where
-          go : (t : Bool) → true ≡ t → some (link_in b) ≡ cond t (some (link_in b)) (some (link_in a))
-          go true e = refl
-          go false e = absurd (true≢false e)
-
-      pub best_one : false ≡ looser (link_in a) (link_in b) → link_of o ≡ tighter (link_of o) (link_of x)
-      unfolding link_of tighter
-      best_one h = rw (is_a, is_b) (go (looser (link_in a) (link_in b)) h)
-        where
-          go : (t : Bool) → false ≡ t → some (link_in a) ≡ cond t (some (link_in b)) (some (link_in a))
-          go true e = absurd (true≢false (sym e))
-          go false e = refl
+use Rattle.connect.specs.Joined.{begin_of, end_of}
+use Rattle.connect.specs.Links.{link_in, tighter, trace_by, leads_by, start_by, Starts, Unused, BestBy}
 
 -- ---- where an arm leads, test by test
-module _ (marks to heft ends head used : List ℕ) (cold : Bool) (q h : ℕ) (is_h : h ≡ get_or head (get_or to q 0) 0) where
-  pub leads_nowhere : h ≡ 0 → link_of Nothing ≡ leads_by marks to heft ends head used cold q
-  unfolding link_of leads_by trace_by
-  leads_nowhere e = rw (sym is_h, e) refl
+module _ (g : Graph) (ends : List ℕ) (head : List (Option ℕ)) (used : List ℕ) (cold : Bool) (q : ℕ) where
+  abbrev n : ℕ
+  n = get_or g.a.to q 0
 
-  module _ (some_trace : h ≡ 0 → ⊥) where
-    index : get_or head (get_or to q 0) 0 ≡ suc (h - 1)
-    index = omega (arith, is_h, some_trace)
+  pub leads_nowhere : get_or head n None ≡ None → None ≡ leads_by g ends head used cold q
+  unfolding leads_by trace_by
+  leads_nowhere e = rw e refl
 
-    pub leads_used : true ≡ member used (h - 1) → link_of Nothing ≡ leads_by marks to heft ends head used cold q
-    unfolding link_of leads_by trace_by
-    leads_used e = rw (index, trace_by, sym e) refl
+  module _ (k : ℕ) (at : get_or head n None ≡ Some k) where
+    pub leads_used : member used k ≡ true → None ≡ leads_by g ends head used cold q
+    unfolding leads_by trace_by
+    leads_used e = rw (at, trace_by, e) refl
 
-    module _ (there : Bool) (free : false ≡ member used (h - 1)) (same : there ≡ is_cold (get_or marks (get_or to q 0) 0)) where
-      pub leads_across : beq cold there ≡ false → link_of Nothing ≡ leads_by marks to heft ends head used cold q
-      unfolding link_of leads_by trace_by
-      leads_across d = rw (index, trace_by, sym free, sym same, d) refl
+    module _ (free : member used k ≡ false) (there : Bool) (same : there ≡ is_cold (get_or g.b.marks n 0)) where
+      pub leads_across : not (beq cold there) ≡ true → None ≡ leads_by g ends head used cold q
+      unfolding leads_by trace_by
+      leads_across d = let e : beq cold there ≡ false = split_bool (beq cold there) (λ t. absurd (true≢false (sym d ∙ ap not t))) (λ t. t) in rw (at, trace_by, free, ← same, e) refl
 
-      pub leads_on : beq cold there ≡ true → (k : Link) → k.weight ≡ get_or heft q 0 → k.long ≡ get_or ends (h - 1) 0 - begin_of ends (h - 1) → k.index ≡ h - 1
-          → link_of (Trace k) ≡ leads_by marks to heft ends head used cold q
-      unfolding link_of link_in leads_by trace_by
-      leads_on d k w l i = rw (index, trace_by, sym free, sym same, d, w, l, i) refl
-
--- what the table has is a trace
-pub headed_one : (ends head : List ℕ) (n h : ℕ) → Headed ends head → h ≡ get_or head n 0 → (h ≡ 0 → ⊥) → (h - 1 < blocks) × (begin_of ends (h - 1) < get_or ends (h - 1) 0)
-headed_one ends head n h k e z = k n (h - 1) (omega (arith, e, z))
+      pub leads_on : not (beq cold there) ≡ false → (o : Link) → o.weight ≡ get_or g.a.weight q 0 → o.long ≡ end_of ends k - begin_of ends k → o.index ≡ k
+          → Some (link_in o) ≡ leads_by g ends head used cold q
+      unfolding link_in leads_by trace_by
+      leads_on d o w l i = let e : beq cold there ≡ true = split_bool (beq cold there) (λ t. t) (λ t. absurd (true≢false (sym (ap not t) ∙ d))) in rw (at, trace_by, free, ← same, e, w, l, i) refl
 
 -- ---- arm by arm
 module _ (f : ℕ → Option join.Link) where
@@ -125,50 +63,50 @@ module _ (f : ℕ → Option join.Link) where
   chosen_end o q e h = let z : e - q ≡ 0 = omega (arith, h) in rw z refl
 
 -- ---- a trace that is led to is unused
-module _ (head used : List ℕ) where
+module _ (head : List (Option ℕ)) (used : List ℕ) where
   pub tighter_unused : (o x : Option join.Link) → Unused head used o → Unused head used x → Unused head used (tighter o x)
   unfolding tighter
-  tighter_unused o none h k = h
-  tighter_unused none (some x) h k = k
-  tighter_unused (some b) (some x) h k = go (looser b x)
+  tighter_unused o None h k = h
+  tighter_unused None (Some x) h k = k
+  tighter_unused (Some b) (Some x) h k = go (looser b x)
     where
-      go : (t : Bool) → Unused head used (cond t (some x) (some b))
+      go : (t : Bool) → Unused head used (cond t (Some x) (Some b))
       go true = k
       go false = h
 
-  trace_unused : (ends : List ℕ) (same : Bool) (heavy n h : ℕ) → get_or head n 0 ≡ h → Unused head used (trace_by ends used same heavy h)
+  trace_unused : (ends : List ℕ) (same : Bool) (heavy n : ℕ) (h : Option ℕ) → get_or head n None ≡ h → Unused head used (trace_by ends used same heavy h)
   unfolding trace_by
-  trace_unused ends same heavy n zero e = tt
-  trace_unused ends same heavy n (suc k) e = go (member used k) refl same
+  trace_unused ends same heavy n None e = tt
+  trace_unused ends same heavy n (Some k) e = go (member used k) refl same
     where
-      go : (m : Bool) → member used k ≡ m → (s : Bool) → Unused head used (cond (not m && s) (some (record { weight = heavy; long = get_or ends k 0 - begin_of ends k; index = k })) none)
+      go : (m : Bool) → member used k ≡ m → (s : Bool) → Unused head used (cond (not m && s) (Some (record { weight = heavy; long = get_or ends k 0 - begin_of ends k; index = k })) None)
       go true q s = tt
       go false q true = (q, (n, e))
       go false q false = tt
 
-pub leads_unused : (marks to heft ends head used : List ℕ) (cold : Bool) (q : ℕ) → Unused head used (leads_by marks to heft ends head used cold q)
+pub leads_unused : (g : Graph) (ends : List ℕ) (head : List (Option ℕ)) (used : List ℕ) (cold : Bool) (q : ℕ) → Unused head used (leads_by g ends head used cold q)
 unfolding leads_by
-leads_unused marks to heft ends head used cold q =
-    trace_unused head used ends (beq cold (is_cold (get_or marks (get_or to q 0) 0))) (get_or heft q 0) (get_or to q 0) (get_or head (get_or to q 0) 0) refl
+leads_unused g ends head used cold q =
+    let n = get_or g.a.to q 0 in trace_unused head used ends (beq cold (is_cold (get_or g.b.marks n 0))) (get_or g.a.weight q 0) n (get_or head n None) refl
 
 -- ---- by the rules
-best_more : (o : Option join.Link) (x : join.Link) (l : List join.Link) → best looser o (x ∷ l) ≡ best looser (tighter o (some x)) l
+best_more : (o : Option join.Link) (x : join.Link) (l : List join.Link) → best looser o (x ∷ l) ≡ best looser (tighter o (Some x)) l
 unfolding best tighter
-best_more none x l = refl
-best_more (some b) x l = go (looser b x)
+best_more None x l = refl
+best_more (Some b) x l = go (looser b x)
   where
-    go : (t : Bool) → best looser (elim t [ true ↦ some x | false ↦ some b ]) l ≡ best looser (cond t (some x) (some b)) l
+    go : (t : Bool) → best looser (elim t [ true ↦ Some x | false ↦ Some b ]) l ≡ best looser (cond t (Some x) (Some b)) l
     go true = refl
     go false = refl
 
-module _ (g : graph.Graph) (ts : List (List ℕ)) (ends head used l : List ℕ) (s : Starts ts ends head) (m : Marks used l) (cold : Bool) where
+module _ (g : graph.Graph) (ts : List (List ℕ)) (ends : List ℕ) (head : List (Option ℕ)) (used l : List ℕ) (s : Starts ts ends head) (m : Marks used l) (cold : Bool) where
   -- the trace that an arm leads to
   arm_link : graph.Arm → Option join.Link
-  arm_link a = trace_by ends used (beq cold (cold_at g a.to)) a.weight (get_or head a.to 0)
+  arm_link a = trace_by ends used (beq cold (cold_at g a.to)) a.weight (get_or head a.to None)
 
   link_more : (o : Option join.Link) (a : graph.Arm) (rest : List graph.Arm) → best looser o (links g ts l cold (a ∷ rest)) ≡ best looser (tighter o (arm_link a)) (links g ts l cold rest)
   unfolding links arm_link trace_by start_by tighter
-  link_more o a rest = rw (s a.to, links) (go (get_or head a.to 0))
+  link_more o a rest = rw (s a.to, links) (go (get_or head a.to None))
     where
       r : List join.Link
       r = links g ts l cold rest
@@ -176,7 +114,7 @@ module _ (g : graph.Graph) (ts : List (List ℕ)) (ends head used l : List ℕ) 
       new : ℕ → join.Link
       new k = record { weight = a.weight; long = get_or ends k 0 - begin_of ends k; index = k }
 
-      side : (k : ℕ) (b c d : Bool) → best looser o (cond (b || (c && not d) || (not c && d)) r (new k ∷ r)) ≡ best looser (tighter o (cond (not b && beq d c) (some (new k)) none)) r
+      side : (k : ℕ) (b c d : Bool) → best looser o (cond (b || (c && not d) || (not c && d)) r (new k ∷ r)) ≡ best looser (tighter o (cond (not b && beq d c) (Some (new k)) None)) r
       side k true true true = refl
       side k true true false = refl
       side k true false true = refl
@@ -186,12 +124,12 @@ module _ (g : graph.Graph) (ts : List (List ℕ)) (ends head used l : List ℕ) 
       side k false false true = refl
       side k false false false = best_more o (new k) r
 
-      go : (h : ℕ) → best looser o (elim (start_by ends h) as (λ (x : Option join.Link). List join.Link) [
-        | none ↦ r
-        | some k ↦ cond (mem k.index l || (cold_at g a.to && not cold) || (not (cold_at g a.to) && cold)) r (record { weight = a.weight; long = k.long; index = k.index } ∷ r)
+      go : (h : Option ℕ) → best looser o (elim (start_by ends h) as (λ (x : Option join.Link). List join.Link) [
+        | None ↦ r
+        | Some k ↦ cond (mem k.index l || (cold_at g a.to && not cold) || (not (cold_at g a.to) && cold)) r (record { weight = a.weight; long = k.long; index = k.index } ∷ r)
       ]) ≡ best looser (tighter o (trace_by ends used (beq cold (cold_at g a.to)) a.weight h)) r
-      go zero = refl
-      go (suc k) = rw (sym (m k)) (side k (member used k) (cold_at g a.to) cold)
+      go None = refl
+      go (Some k) = rw (sym (m k)) (side k (member used k) (cold_at g a.to) cold)
 
   chosen_best : (a : Arms) (f : ℕ → Option join.Link) (o : Option join.Link) (q n : ℕ) → ((j : ℕ) → q ≤ j → j < q + n → f j ≡ arm_link (arm_at a j)) → chosen f o q n ≡ best looser o (links g ts l cold (arms_from a q n))
   unfolding chosen arms_from links best
@@ -201,24 +139,26 @@ module _ (g : graph.Graph) (ts : List (List ℕ)) (ends head used l : List ℕ) 
       ∙ ap (λ (x : Option join.Link). best looser (tighter o x) (links g ts l cold (arms_from a (suc q) n))) (h q (omega arith) (omega arith))
       ∙ sym (link_more o (arm_at a q) (arms_from a (suc q) n))
 
--- ---- in a graph that has the tables
-module _ {t : Graph} {marks weight first count to heft : List ℕ} (k : Flows t marks weight first count to heft) (n : ℕ) (i : Of t n) (ts : List (List ℕ)) (ends head used l : List ℕ) (s : Starts ts ends head) (m : Marks used l) where
-  leads_same : (q : ℕ) → Of t (get_or to q 0) → leads_by marks to heft ends head used (is_cold (get_or marks n 0)) q ≡ arm_link (tabled t) ts ends head used l s m (is_cold (get_or marks n 0)) (arm_at t.a q)
-  unfolding leads_by arm_link
-  leads_same q j = rw (to_at k q, heft_at k q, cold_at_lem k (get_or to q 0) j) refl
+-- ---- all arms of a block of a sound graph
+module _ {g : Graph} (k : Sound g) (n : ℕ) (i : Of g n) (ts : List (List ℕ)) (ends : List ℕ) (head : List (Option ℕ)) (used l : List ℕ) (s : Starts ts ends head) (m : Marks used l) where
+  leads_alike : (q : ℕ) → get_or g.a.first n 0 ≤ q → q < get_or g.a.first n 0 + get_or g.a.count n 0
+      → leads_by g ends head used (is_cold (get_or g.b.marks n 0)) q ≡ arm_link (tabled g) ts ends head used l s m (is_cold (get_or g.b.marks n 0)) (arm_at g.a q)
+  unfolding leads_by arm_link arm_at
+  leads_alike q b u = rw (cold_is k (get_or g.a.to q 0) (goes_on k n i q (record { from = b; below = u }))) refl
 
-  leads_alike : (q : ℕ) → get_or first n 0 ≤ q → q < get_or first n 0 + get_or count n 0 → leads_by marks to heft ends head used (is_cold (get_or marks n 0)) q ≡ arm_link (tabled t) ts ends head used l s m (is_cold (get_or marks n 0)) (arm_at t.a q)
-  leads_alike q b u = let e : get_or first n 0 + (q - get_or first n 0) ≡ q = omega (arith, b) in leads_same q (subst (λ (x : ℕ). Of t (get_or to x 0)) e (goes_to k n i (q - get_or first n 0) (omega (arith, b, u))))
-
-  chosen_links : chosen (leads_by marks to heft ends head used (is_cold (get_or marks n 0))) none (get_or first n 0) (get_or count n 0)
-      ≡ best looser none (links (tabled t) ts l (cold_at (tabled t) n) (graph.block_at (tabled t) n).arms)
+  chosen_links : chosen (leads_by g ends head used (is_cold (get_or g.b.marks n 0))) None (get_or g.a.first n 0) (get_or g.a.count n 0)
+      ≡ best looser None (links (tabled g) ts l (cold_at (tabled g) n) (graph.block_at (tabled g) n).arms)
+  unfolding leaves
   chosen_links =
-      chosen_best (tabled t) ts ends head used l s m (is_cold (get_or marks n 0)) t.a (leads_by marks to heft ends head used (is_cold (get_or marks n 0))) none (get_or first n 0) (get_or count n 0) leads_alike
-      ∙ rw (cold_at_lem k n i, arms_at k n i) refl
+      chosen_best (tabled g) ts ends head used l s m (is_cold (get_or g.b.marks n 0)) g.a (leads_by g ends head used (is_cold (get_or g.b.marks n 0))) None (get_or g.a.first n 0) (get_or g.a.count n 0) leads_alike
+      ∙ rw (cold_is k n i, arms_are k n i) refl
 
--- ---- all arms of block n
-module _ (marks first count to heft ends head used : List ℕ) (n : ℕ) (cold : Bool) (f c : ℕ) (is_cold_lem : cold ≡ is_cold (get_or marks n 0)) (is_first : f ≡ get_or first n 0) (is_count : c ≡ get_or count n 0) where
-  pub chosen_all : (r : Next) → chosen (leads_by marks to heft ends head used cold) none f (f + c - f) ≡ link_of r → BestBy marks first count to heft ends head used n r
-  chosen_all r e t weight k i ts s l m =
+module _ (g : Graph) (ends : List ℕ) (head : List (Option ℕ)) (used : List ℕ) (n : ℕ) (cold : Bool) (f c : ℕ) (is_cold_lem : cold ≡ is_cold (get_or g.b.marks n 0)) (is_first : f ≡ get_or g.a.first n 0) (is_count : c ≡ get_or g.a.count n 0) where
+  pub chosen_all : (r : Option Link) → chosen (leads_by g ends head used cold) None f (f + c - f) ≡ option_map link_in r → BestBy g ends head used n r
+  chosen_all r e k i ts s l m =
       let z : f + c - f ≡ c = omega arith in
       sym e ∙ rw (z, is_cold_lem, is_first, is_count) (chosen_links k n i ts ends head used l s m)
+
+pub ruleset lead_steps = (leads_nowhere, leads_used, leads_across, leads_on)
+
+pub ruleset choice_steps = (chosen_next, chosen_end, chosen_all, tighter_unused, leads_unused)

@@ -1,59 +1,51 @@
 -- The traces that are used so far and where their blocks stand, and what following on from a trace adds.
-use Rattle.std.specs.Prelude.{ℕ, zero, suc, ◌+◌, ◌-◌, ◌<◌, ◌≡◌, true, false, cond, List, [], map, reverse, length, get_or, take}
-use Rattle.limits.specs.Limits.{blocks}
+use Rattle.std.specs.Prelude.{ℕ, zero, suc, ◌+◌, ◌-◌, ◌<◌, ◌≡◌, true, false, cond, List, [], map, reverse, get_or, Option, None, Some}
 use Rattle.rules.specs.Lists.{concat}
-use Rattle.rules.proofs.Membership.{In}
 use Rattle.rules.proofs.JoinEnd.{Follows}
 use Rattle.records.specs.declared.Graph.{Graph}
-use Rattle.records.specs.Tables.{tabled}
-use Rattle.marks.specs.Sets.{room, member}
-use Rattle.flow.specs.Lent.{Flows, Of, Marks}
-use Rattle.connect.specs.Joined.{begin_of, traces_in, Joinable}
+use Rattle.records.specs.declared.Order.{Order}
+use Rattle.records.specs.Tables.{tabled, in_order, Sound}
+use Rattle.marks.specs.Sets.{member}
+use Rattle.flow.specs.Lent.{Marks}
+use Rattle.connect.specs.declared.Traces.{Traces}
+use Rattle.connect.specs.Joined.{begin_of, end_of, all_traces, Joinable, AllOf}
 use Rattle.connect.specs.Links.{Starts}
 
 -- the table of the traces by their first blocks
-pub record Heads (order ends : List ℕ) (found : ℕ) (head : List ℕ) : Type 0 where
-  pub head_sized : length head ≡ blocks
-  pub below : (n k : ℕ) → get_or head n 0 ≡ suc k → k < found
-  pub starts : Starts (traces_in order ends found) ends head
+pub record Heads (f : Traces) (head : List (Option ℕ)) : Type 0 where
+  pub below : (n k : ℕ) → get_or head n None ≡ Some k → k < f.len
+  pub starts : Starts (all_traces f) f.ends head
 
 -- how many blocks the used ones of the first k traces have
 unfoldable pub laid_in : List ℕ → List ℕ → ℕ → ℕ
 laid_in ends used zero = 0
-laid_in ends used (suc k) = cond (member used k) (get_or ends k 0 - begin_of ends k) 0 + laid_in ends used k
+laid_in ends used (suc k) = cond (member used k) (end_of ends k - begin_of ends k) 0 + laid_in ends used k
 
 -- the blocks of the traces that were used, the last first
 unfoldable pub laid_of : List (List ℕ) → List ℕ → List ℕ
 laid_of ts l = concat (map (λ (i : ℕ). get_or ts i []) (reverse l))
 
--- the tables that change have an entry for each number, and the blocks of the used traces stand in the first `len`
-pub record Places (ends used block : List ℕ) (len found : ℕ) : Type 0 where
-  pub used_sized : length used ≡ room
-  pub block_sized : length block ≡ blocks
-  pub len_is : len ≡ laid_in ends used found
+-- the blocks of the used traces are laid
+abbrev pub Places : Traces → List ℕ → Order → Type 0
+Places f used o = o.len ≡ laid_in f.ends used f.len
 
--- trace `from` is one, and unused
-pub record Goes (used : List ℕ) (from found : ℕ) : Type 0 where
-  pub one : from < found
+-- trace `from` can be laid and what follows it
+pub record Begins (f : Traces) (head : List (Option ℕ)) (used : List ℕ) (o : Order) (from : ℕ) : Type 0 where
+  pub joinable : Joinable f
+  pub heads : Heads f head
+  pub places : Places f used o
+  pub one : from < f.len
   pub free : member used from ≡ false
 
--- of some number of traces, trace `from` can be laid and what follows it
-pub record Begins (order ends head used block : List ℕ) (len from found : ℕ) : Type 0 where
-  pub joinable : Joinable order ends found
-  pub heads : Heads order ends found head
-  pub places : Places ends used block len found
-  pub goes : Goes used from found
-
 -- the traces of the list are used, the last first, and their blocks laid
-pub record Laid (ts : List (List ℕ)) (used block : List ℕ) (len : ℕ) (l : List ℕ) : Type 0 where
+pub record Laid (ts : List (List ℕ)) (used : List ℕ) (o : Order) (l : List ℕ) : Type 0 where
   pub used_are : Marks used l
-  pub block_is : take len block ≡ laid_of ts l
+  pub block_is : in_order o ≡ laid_of ts l
 
--- trace `from` is used and those that were, their blocks are laid; and in every graph that has these tables and the blocks of
--- the traces, what the rules lay when they follow on from it is laid
-pub record Followed (marks first count to heft order ends used block : List ℕ) (len from found : ℕ) (used' block' : List ℕ) (r : ℕ) : Type 0 where
-  pub places : Places ends used' block' r found
+-- trace `from` is used and those that were, their blocks are laid; and in a sound graph that has the blocks of the traces, what
+-- the rules lay when they follow on from it is laid
+pub record Followed (g : Graph) (f : Traces) (used : List ℕ) (o : Order) (from : ℕ) (used' : List ℕ) (o' : Order) : Type 0 where
+  pub places : Places f used' o'
   pub laid : member used' from ≡ true
   pub kept : (m : ℕ) → member used m ≡ true → member used' m ≡ true
-  pub follows : (t : Graph) (weight : List ℕ) → Flows t marks weight first count to heft → ((n : ℕ) → In n (take (begin_of ends found) order) → Of t n) →
-      (l v : List ℕ) → Laid (traces_in order ends found) used block len l → Follows (tabled t) (traces_in order ends found) l from v → Laid (traces_in order ends found) used' block' r v
+  pub follows : Sound g → AllOf g f → (l v : List ℕ) → Laid (all_traces f) used o l → Follows (tabled g) (all_traces f) l from v → Laid (all_traces f) used' o' v

@@ -2,55 +2,80 @@
 // enters at its first block, as long as there is one that is unused; traces stay whole.
 #![tactic(auto)]
 
-ghost use Rattle.std.specs.Prelude.{◌≡◌, ◌++◌, ℕ, ◌+◌, ◌-◌, ◌≤◌, ◌<◌, length, take};
+ghost use Rattle.std.specs.Prelude.{◌≡◌, ◌++◌, ℕ, ◌+◌, ◌≤◌, ◌<◌, length};
+ghost use Rattle.std.specs.Option.{option_map};
 ghost use Rattle.std.proofs.Math.Seq.{slice};
 ghost use Rattle.limits.specs.Limits.{blocks, arms};
 ghost use Rattle.rules.specs.Join.{looser};
-ghost use Rattle.connect.specs.Joined.{begin_of, Lent, Joinable, JoinedBy};
-ghost use Rattle.connect.specs.Links.{link_in, link_of, tighter, leads_by, Found, Unused, BestBy};
+ghost use Rattle.records.specs.Tables.{ArmsWithin, in_order};
+ghost use Rattle.connect.specs.Joined.{empty, begin_of, end_of, Stretch, Joinable, JoinedBy};
+ghost use Rattle.connect.specs.Links.{link_in, tighter, leads_by, Headed, Unused, BestBy};
 ghost use Rattle.connect.specs.Following.{Heads, Begins, Followed};
 
-use limits::{ARMS, BLOCKS};
-use records::Order;
+use limits::BLOCKS;
+use marks::Set;
+use records::{Graph, Order};
+
+// Traces as they are found: the first `len`, of which each begins where the one before it ends, and trace k ends before
+// place `ends[k]` of the order.
+#[derive(Drop)]
+pub struct Traces {
+    pub order: [u16; BLOCKS],
+    pub ends: [u16; BLOCKS],
+    pub len: usize,
+}
+
+impl Traces {
+    // No trace.
+    pub fn empty() -> Self
+        ensures { result ≡ empty }
+    {
+        Traces {
+            order: [0; BLOCKS],
+            ends: [0; BLOCKS],
+            len: 0,
+        }
+    }
+
+    // Where trace k begins.
+    #[tactic(auto, unfolding(crate::specs::Joined::begin_of), using(crate::proofs::TraceLaws::begin_before))]
+    pub fn begin(&self, k: usize) -> usize
+        requires { k ≤ blocks }
+        ensures { result ≡ begin_of self.now.ends k }
+    {
+        if k == 0 {
+            return 0;
+        }
+        self.ends[k - 1] as usize
+    }
+
+    // The blocks of trace k.
+    fn trace(&self, k: usize) -> &[u16]
+        requires { Stretch self.now.ends k }
+        ensures { result.now ≡ slice (begin_of self.now.ends k) (end_of self.now.ends k) self.now.order }
+    {
+        &self.order[self.begin(k)..self.ends[k] as usize]
+    }
+}
 
 // An arm to the first block of a trace: its weight, and the trace's length and index.
 #[derive(Clone, Copy)]
 pub struct Link {
     pub weight: u64,
     pub long: usize,
-    pub index: usize,
+    pub index: u16,
 }
 
-// The trace that follows, or that there is none.
-#[derive(Clone, Copy)]
-pub enum Next {
-    Trace(Link),
-    Nothing,
-}
-
-// Where trace k begins, which is where the one before it ends.
-pub fn begin(ends: &[u16; BLOCKS], k: usize) -> usize
-    requires { (length ends.now ≡ blocks) × (k ≤ blocks) }
-    ensures { result ≡ begin_of ends.now k }
+// By block number the index of the trace that starts there.
+#[tactic(auto, using(crate::proofs::HeadLaws::begins_low))]
+fn heads(found: &Traces) -> [Option<u16>; BLOCKS]
+    requires { Joinable found.now }
+    ensures { Heads found.now result }
 {
-    if k == 0 {
-        return 0;
-    }
-    lists::wide(ends[k - 1])
-}
-
-// By block number the index and 1 of the trace that starts there; 0 where none does.
-fn heads<'a>(order: &'a [u16; BLOCKS], ends: &'a [u16; BLOCKS], found: usize) -> [u16; BLOCKS]
-    requires { Joinable order.now ends.now found }
-    ensures { Heads order.now ends.now found result }
-{
-    let mut head = [0; BLOCKS];
-    let mut k: usize = 0;
-    while k < found {
-        let at = begin(ends, k);
-        let n = lists::wide(order[at]);
-        k = k + 1;
-        head[n] = k as u16;
+    let mut head = [None; BLOCKS];
+    for k in 0..found.len {
+        let n = found.order[found.begin(k)];
+        head[n as usize] = Some(k as u16);
     }
     head
 }
@@ -58,187 +83,134 @@ fn heads<'a>(order: &'a [u16; BLOCKS], ends: &'a [u16; BLOCKS], found: usize) ->
 // ---- the trace that follows
 
 // Whether link a is less than link b: by weight, then the longer trace, then the earlier.
+#[tactic(auto, using(std::proofs::lemmas::Bool::Decides::nat_tests), unfolding(rules::specs::Join::looser, crate::specs::Links::link_in))]
 fn looser(a: Link, b: Link) -> bool
     ensures { result ≡ looser (link_in a) (link_in b) }
 {
-    if a.weight != b.weight {
-        return a.weight < b.weight;
-    }
-    if a.long != b.long {
-        return a.long < b.long;
-    }
-    b.index < a.index
+    (a.weight, a.long, b.index) < (b.weight, b.long, a.index)
 }
 
 // The better of the best link so far and one that comes later.
-fn better(best: Next, other: Next) -> Next
-    ensures { link_of result ≡ tighter (link_of best) (link_of other) }
+#[tactic(auto, unfolding(crate::specs::Links::tighter))]
+fn better(best: Option<Link>, other: Option<Link>) -> Option<Link>
+    ensures { option_map link_in result ≡ tighter (option_map link_in best) (option_map link_in other) }
 {
-    let Next::Trace(b) = other else {
+    let Some(b) = other else {
         return best;
     };
-    let Next::Trace(a) = best else {
+    let Some(a) = best else {
         return other;
     };
-    if looser(a, b) {
-        return other;
-    }
-    best
+    if looser(a, b) { other } else { best }
 }
 
 // The trace that arm q leads to, if it is unused and on the same side of the split.
-#[tactic(auto, using(crate::proofs::LinkLaws::leads_across))]
-fn leads<'a>(
-    marks: &'a [u8; BLOCKS],
-    to: &'a [u16; ARMS],
-    heft: &'a [u64; ARMS],
-    ends: &'a [u16; BLOCKS],
-    head: &'a [u16; BLOCKS],
-    used: &'a [u8; marks::ROOM],
+#[tactic(auto, using(crate::proofs::LinkLaws::lead_steps))]
+fn leads(
+    g: &Graph,
+    found: &Traces,
+    head: &[Option<u16>; BLOCKS],
+    used: &Set,
     cold: bool,
     q: usize,
-) -> Next
-    requires marks_len { (length marks.now ≡ blocks) × (length to.now ≡ arms) × (length heft.now ≡ arms) × (q < arms) }
-    requires found { Found ends.now head.now used.now }
-    ensures { link_of result ≡ leads_by marks.now to.now heft.now ends.now head.now used.now cold q }
+) -> Option<Link>
+    requires { (q < arms) × Headed found.now.ends head.now }
+    ensures { option_map link_in result ≡ leads_by g.now found.now.ends head.now used.now cold q }
 {
-    let n = to[q];
-    let h = lists::entry_of(head, n);
-    if h == 0 {
-        return Next::Nothing;
+    let n = g.a.to[q];
+    let index = lists::at(head, n, None)?;
+    if marks::is_marked(used, index) {
+        return None;
     }
-    let k = h - 1;
-    if marks::is_marked(used, k as u16) {
-        return Next::Nothing;
+    let there = cold::is_cold(g.b.marks_of(n));
+    let across = cold != there;
+    if across {
+        return None;
     }
-    let there = cold::is_cold(lists::byte_of(marks, n));
-    if cold != there {
-        return Next::Nothing;
-    }
-    let weight = heft[q];
-    let long = lists::wide(ends[k]) - begin(ends, k);
-    Next::Trace(Link {
-        weight,
-        long,
-        index: k,
+    Some(Link {
+        weight: g.a.weight[q],
+        long: found.trace(index as usize).len(),
+        index,
     })
 }
 
 // The best of the unused traces that block n's arms lead to, if any.
-fn next_trace<'a>(
-    marks: &'a [u8; BLOCKS],
-    first: &'a [u16; BLOCKS],
-    count: &'a [u16; BLOCKS],
-    to: &'a [u16; ARMS],
-    heft: &'a [u64; ARMS],
-    ends: &'a [u16; BLOCKS],
-    head: &'a [u16; BLOCKS],
-    used: &'a [u8; marks::ROOM],
+#[tactic(auto, using(crate::proofs::LinkLaws::choice_steps))]
+fn next_trace(
+    g: &Graph,
+    found: &Traces,
+    head: &[Option<u16>; BLOCKS],
+    used: &Set,
     n: u16,
-) -> Next
-    requires { Lent marks.now first.now count.now to.now heft.now × Found ends.now head.now used.now }
-    ensures unused { Unused head.now used.now (link_of result) }
-    ensures best_by { BestBy marks.now first.now count.now to.now heft.now ends.now head.now used.now n result }
+) -> Option<Link>
+    requires { ArmsWithin g.now.a arms × Headed found.now.ends head.now }
+    ensures unused { Unused head.now used.now (option_map link_in result) }
+    ensures best_by { BestBy g.now found.now.ends head.now used.now n result }
 {
-    let cold = cold::is_cold(lists::byte_of(marks, n));
-    let f = lists::entry_of(first, n);
-    let end = f + lists::entry_of(count, n);
-    let mut best = Next::Nothing;
-    let mut q = f;
-    while q < end {
-        let other = leads(marks, to, heft, ends, head, used, cold, q);
-        best = better(best, other);
-        q = q + 1;
+    let cold = cold::is_cold(g.b.marks_of(n));
+    let first = g.a.first_of(n);
+    let mut best = None;
+    for q in first..first + g.a.count_of(n) {
+        best = better(best, leads(g, found, head, used, cold, q));
     }
     best
 }
 
 // ---- one trace after the other
 
-// The part of the order from `from` up to `end` put behind the first `len` blocks; answers how many these are then.
-fn copy<'a>(
-    order: &'a [u16; BLOCKS],
-    from: usize,
-    end: usize,
-    block: &mut [u16; BLOCKS],
-    len: usize,
-) -> usize
-    requires order_len { (length order.now ≡ blocks) × (length block.old ≡ blocks) }
-    requires from_le_end { (from ≤ end) × (end ≤ blocks) × (len + (end - from) ≤ blocks) }
-    ensures value { (result ≡ len + (end - from)) × (length block.new ≡ blocks) }
-    ensures block_after { take result block.new ≡ take len block.old ++ slice from end order.now }
+// A trace put behind the blocks that are laid. No twin of a text that is put: another struct, with a contract of its own.
+#[tactic(auto, using(crate::proofs::TraceLaws::put_behind), unfolding(records::specs::Tables::in_order))]
+fn copy(o: &mut Order, trace: &[u16])
+    requires { o.old.len + length trace.now ≤ blocks }
+    ensures order_after { in_order o.new ≡ in_order o.old ++ trace.now }
+    ensures len { o.new.len ≡ o.old.len + length trace.now }
 {
-    let mut at = len;
-    let mut i = from;
-    while i < end {
-        block[at] = order[i];
-        at = at + 1;
-        i = i + 1;
-    }
-    at
+    let end = o.len + trace.len();
+    o.block[o.len..end].copy_from_slice(trace);
+    o.len = end;
 }
 
-// Trace `from` and what follows it, trace by trace, put behind the first `len` blocks; answers how many these are then.
-fn follow<'a>(
-    marks: &'a [u8; BLOCKS],
-    first: &'a [u16; BLOCKS],
-    count: &'a [u16; BLOCKS],
-    to: &'a [u16; ARMS],
-    heft: &'a [u64; ARMS],
-    order: &'a [u16; BLOCKS],
-    ends: &'a [u16; BLOCKS],
-    head: &'a [u16; BLOCKS],
-    used: &mut [u8; marks::ROOM],
-    block: &mut [u16; BLOCKS],
-    len: usize,
-    from: usize,
-) -> usize
-    requires lent { Lent marks.now first.now count.now to.now heft.now }
-    requires by_index { (found : ℕ) × Begins order.now ends.now head.now used.old block.old len from found }
-    ensures { (found : ℕ) → Begins order.now ends.now head.now used.old block.old len from found → Followed marks.now first.now count.now to.now heft.now order.now ends.now used.old block.old len from found used.new block.new result }
+// Trace `from` and what follows it, trace by trace, put behind the blocks that are laid.
+fn follow(
+    g: &Graph,
+    found: &Traces,
+    head: &[Option<u16>; BLOCKS],
+    used: &mut Set,
+    o: &mut Order,
+    from: u16,
+)
+    requires arms { ArmsWithin g.now.a arms }
+    requires begins { Begins found.now head.now used.old o.old from }
+    ensures { Followed g.now found.now used.old o.old from used.new o.new }
 {
     let mut at = from;
-    let mut laid = len;
     loop {
-        let end = lists::wide(ends[at]);
-        marks::mark(used, at as u16);
-        laid = copy(order, begin(ends, at), end, block, laid);
-        let last = order[end - 1];
-        let next = next_trace(marks, first, count, to, heft, ends, head, used, last);
-        let Next::Trace(link) = next else {
-            return laid;
+        marks::mark(used, at);
+        let trace = found.trace(at as usize);
+        copy(o, trace);
+        let last = trace[trace.len() - 1];
+        let Some(link) = next_trace(g, found, head, used, last) else {
+            return;
         };
         at = link.index;
     }
 }
 
-// The blocks of the traces in the order in which they are joined: the first `found` traces of `order`, trace k ending
-// before place `ends[k]`.
-pub fn connect<'a>(
-    marks: &'a [u8; BLOCKS],
-    first: &'a [u16; BLOCKS],
-    count: &'a [u16; BLOCKS],
-    to: &'a [u16; ARMS],
-    heft: &'a [u64; ARMS],
-    order: &'a [u16; BLOCKS],
-    ends: &'a [u16; BLOCKS],
-    found: usize,
-) -> Order
-    requires { Lent marks.now first.now count.now to.now heft.now × Joinable order.now ends.now found }
-    ensures { JoinedBy marks.now first.now count.now to.now heft.now order.now ends.now found result }
+// The blocks of the traces in the order in which they are joined.
+pub fn connect(g: &Graph, found: &Traces) -> Order
+    requires { ArmsWithin g.now.a arms × Joinable found.now }
+    ensures { JoinedBy g.now found.now result }
 {
-    let head = heads(order, ends, found);
+    let head = heads(found);
     let mut used = marks::none();
-    let mut block = [0; BLOCKS];
-    let mut len: usize = 0;
-    let mut from: usize = 0;
-    while from < found {
+    let mut o = Order {
+        block: [0; BLOCKS],
+        len: 0,
+    };
+    for from in 0..found.len {
         if !marks::is_marked(&used, from as u16) {
-            len = follow(
-                marks, first, count, to, heft, order, ends, &head, &mut used, &mut block, len, from,
-            );
+            follow(g, found, &head, &mut used, &mut o, from as u16);
         }
-        from = from + 1;
     }
-    Order { block, len }
+    o
 }

@@ -1,24 +1,21 @@
 -- The second walk: what a list adds to a piece, and what is in it when nothing is left to look at. Assumes nothing.
-use Prim.Native.Nat.{ℕ, suc, ◌+◌, ◌-◌, ◌≤◌, ◌<◌}
-use native.Mathlib.Numerals.{add-one}
-use native.Mathlib.Omega.{arith}
-use mathlib.Core.Path.{◌≡◌, refl, sym, ap, ◌∙◌, subst}
-use mathlib.Core.Bool.{Bool, true, false}
-use mathlib.Core.Logic.{◌⊎◌, inl, inr, ⊎_elim}
-use mathlib.Core.List.{List, [], ◌∷◌}
-use lib.Dec.{eqb}
-use lib.ListN.{length, get_or, set, length-set}
+use Rattle.std.proofs.Common.{ℕ, suc, ◌+◌, ◌-◌, ◌≤◌, ◌<◌, ◌≡◌, Bool, true, false, ◌⊎◌, inl, inr, List, [], ◌∷◌, length, get_or, set, refl, sym, ap, ◌∙◌, subst, arith, add-one, eqb}
+use Rattle.std.specs.Prelude.{Option, None, Some}
+use mathlib.Core.Logic.{⊎_elim}
 use lib.Seq.{get_or-set_same, get_or-set_other}
 use borrow.Author.Tests.{eqb-true, eqb-false}
-use Rattle.limits.specs.Limits.{blocks, arms}
+use Rattle.limits.specs.Limits.{blocks}
 use Rattle.lists.specs.Marked.{marked}
 use Rattle.lists.proofs.Choices.{split_eq}
-use Rattle.lists.proofs.Tables.{marked_most, marked_more}
+use Rattle.lists.proofs.Tables.{marked_most}
 use Rattle.rules.proofs.Membership.{In}
 use Rattle.rules.proofs.StackWalk.{Frame}
 use Rattle.stack.specs.Frames.{frame}
-use Rattle.cycles.specs.Inward.{Linked, Lists}
-use Rattle.cycles.specs.Gathering.{blocks_on, Listing, Gathered, Back, here, over, Collected, Sorted, old, new}
+use Rattle.cycles.specs.declared.Way.{Way}
+use Rattle.cycles.specs.declared.Inward.{Inward}
+use Rattle.cycles.specs.Inward.{way, Linked}
+use Rattle.cycles.proofs.InwardLaws.{linked_wide}
+use Rattle.cycles.specs.Gathering.{blocks_on, Gathered, Back, here, over, Collected, Sorted, old, new}
 
 -- the same number, or another
 same_or : {X : Type 0} (a b : ℕ) → (a ≡ b → X) → ((a ≡ b → ⊥) → X) → X
@@ -28,28 +25,20 @@ same_or {X} a b f g = go (eqb a b) refl
     go true e = f (eqb-true a b e)
     go false e = g (eqb-false a b e)
 
-pub on_push : (b a : ℕ) (st : List Frame) → blocks_on (frame b a ∷ st) ≡ b ∷ blocks_on st
-unfolding blocks_on
-on_push b a st = refl
-
-pub on_none : blocks_on [] ≡ []
-unfolding blocks_on
-on_none = refl
-
 -- ---- a list, block by block
 
 -- the list w, of which `rest` is left
-pub record Going (next from w : List ℕ) (c : ℕ) (p st q st' : List ℕ) (k : ℕ) : Type 0 where
+pub record Going (s : Inward) (w : List ℕ) (c : ℕ) (p st q st' : List ℕ) (o : Option ℕ) : Type 0 where
   pub rest : List ℕ
-  pub linked : Linked next from arms k rest
+  pub linked : Linked s.ways s.len o rest
   pub some : (x : ℕ) → In x rest → In x w
   pub came : (x : ℕ) → (get_or q x 0 ≡ get_or p x 0) ⊎ ((get_or p x 0 ≡ 0) × (get_or q x 0 ≡ c) × In x w × In x st')
   pub whole : (x : ℕ) → In x w → (0 < get_or q x 0) ⊎ In x rest
   pub held : (x : ℕ) → In x st → In x st'
   pub only : (x : ℕ) → In x st' → In x st ⊎ ((get_or p x 0 ≡ 0) × (get_or q x 0 ≡ c) × In x w)
 
-pub going_start : (next from w : List ℕ) (c : ℕ) (p st : List ℕ) (k : ℕ) → Linked next from arms k w → Going next from w c p st p st k
-going_start next from w c p st k h = record {
+pub going_start : (s : Inward) (w : List ℕ) (c : ℕ) (p st : List ℕ) (o : Option ℕ) → Linked s.ways s.len o w → Going s w c p st p st o
+going_start s w c p st o h = record {
   rest = w;
   linked = h;
   some = λ x i. i;
@@ -59,40 +48,61 @@ going_start next from w c p st k h = record {
   only = λ x i. inl i;
 }
 
-module _ {next from w : List ℕ} {c : ℕ} {p st q st' : List ℕ} {k : ℕ} (g : Going next from w c p st q st' k) where
-  pub going_end : k ≤ 0 → Gathered w c p st q st'
+module _ {s : Inward} {w : List ℕ} {c : ℕ} {p st q st' : List ℕ} {o : Option ℕ} (g : Going s w c p st q st' o) where
+  pub going_end : o ≡ None → Gathered w c p st q st'
   going_end h = record { came = g.came; whole = λ x i. ⊎_elim (λ z. z) (λ j. absurd (out x g.rest g.linked j)) (g.whole x i); held = g.held; only = g.only }
     where
-      out : (x : ℕ) (l : List ℕ) → Linked next from arms k l → In x l → ⊥
+      out : (x : ℕ) (l : List ℕ) → Linked s.ways s.len o l → In x l → ⊥
       out x [] n j = j
-      out x (y ∷ l) n j = omega (arith, h, n.0)
+      out x (y ∷ l) n j = let z : ◌≡◌ {A = Option ℕ} None (Some n.0) = sym h ∙ n.1 in cc
 
 -- where a list goes on
-pub record Top (next from : List ℕ) (k : ℕ) (l : List ℕ) : Type 0 where
+pub record Top (s : Inward) (k : ℕ) (l : List ℕ) : Type 0 where
   pub rest : List ℕ
-  pub is : l ≡ get_or from (k - 1) 0 ∷ rest
-  pub within : k ≤ arms
-  pub falls : get_or next (k - 1) 0 < k
-  pub linked : Linked next from arms (get_or next (k - 1) 0) rest
+  pub is : l ≡ (way s.ways k).from ∷ rest
+  pub within : k < s.len
+  pub below : Linked s.ways k (way s.ways k).next rest
 
-pub linked_first : (next from : List ℕ) (k : ℕ) (l : List ℕ) → 0 < k → Linked next from arms k l → Top next from k l
-linked_first next from k [] h n = absurd (omega (arith, h, n))
-linked_first next from k (x ∷ l) h n = record { rest = l; is = ap (λ (z : ℕ). z ∷ l) (sym n.2); within = n.1; falls = n.3; linked = n.4 }
+linked_first : (s : Inward) (k : ℕ) (o : Option ℕ) (l : List ℕ) → o ≡ Some k → Linked s.ways s.len o l → Top s k l
+linked_first s k o [] e n = absurd (let z : ◌≡◌ {A = Option ℕ} None (Some k) = sym n ∙ e in cc)
+linked_first s k o (x ∷ l) e n =
+    let q : n.0 ≡ k = let z : ◌≡◌ {A = Option ℕ} (Some n.0) (Some k) = sym n.1 ∙ e in cc in
+    subst (λ (j : ℕ). Top s j (x ∷ l)) q (record { rest = l; is = ap (λ (z : ℕ). z ∷ l) (sym n.3); within = n.2; below = n.4 })
 
-module _ {next from w : List ℕ} {c : ℕ} {p st q st' : List ℕ} {k : ℕ} (g : Going next from w c p st q st' k) (pos : 0 < k) where
+-- how far a list can go down
+unfoldable pub depth : Option ℕ → ℕ
+depth None = 0
+depth (Some k) = suc k
+
+depth_low : (ways : List Way) (top : ℕ) (o : Option ℕ) (l : List ℕ) → Linked ways top o l → depth o ≤ top
+unfolding depth
+depth_low ways top o [] h = rw h (omega arith)
+depth_low ways top o (m ∷ l) h = rw h.1 (omega (arith, h.2))
+
+module _ {s : Inward} {w : List ℕ} {c : ℕ} {p st q st' : List ℕ} {o : Option ℕ} (k : ℕ) (g : Going s w c p st q st' o) (is : o ≡ Some k) where
   abbrev m : ℕ
-  m = get_or from (k - 1) 0
+  m = (way s.ways k).from
 
-  t : Top next from k g.rest
-  t = linked_first next from k g.rest pos g.linked
+  t : Top s k g.rest
+  t = linked_first s k o g.rest is g.linked
+
+  pub within : k < s.len
+  within = t.within
+
+  pub goes_down : depth (way s.ways k).next < depth o
+  unfolding depth
+  goes_down = rw is (omega (arith, depth_low s.ways k (way s.ways k).next t.rest t.below))
+
+  on : Linked s.ways s.len (way s.ways k).next t.rest
+  on = linked_wide s.ways k s.len (way s.ways k).next t.rest (omega (arith, t.within)) t.below
 
   pub first_in : In m w
   first_in = g.some m (subst (λ (l : List ℕ). In m l) (sym t.is) (inl refl))
 
-  pub turn_old : (k' : ℕ) → k' ≡ get_or next (k - 1) 0 → 0 < get_or q m 0 → Going next from w c p st q st' k'
-  turn_old k' e h = record {
+  pub turn_old : 0 < get_or q m 0 → Going s w c p st q st' (way s.ways k).next
+  turn_old h = record {
     rest = t.rest;
-    linked = subst (λ (z : ℕ). Linked next from arms z t.rest) (sym e) t.linked;
+    linked = on;
     some = λ x i. g.some x (subst (λ (l : List ℕ). In x l) (sym t.is) (inr i));
     came = g.came;
     whole = λ x i. ⊎_elim inl (λ j. ⊎_elim (λ z. inl (subst (λ (y : ℕ). 0 < get_or q y 0) (sym z) h)) inr (subst (λ (l : List ℕ). In x l) t.is j)) (g.whole x i);
@@ -101,52 +111,43 @@ module _ {next from w : List ℕ} {c : ℕ} {p st q st' : List ℕ} {k : ℕ} (g
   }
 
   -- a block in no piece joins this one
-  pub turn_new : (k' b : ℕ) → k' ≡ get_or next (k - 1) 0 → b ≡ m → get_or q m 0 ≡ 0 → m < length q → 0 < c → Going next from w c p st (set q b c) (m ∷ st') k'
-  turn_new k' b e eb z h pos-c = record {
+  turn_new : get_or q m 0 ≡ 0 → m < length q → 0 < c → Going s w c p st (set q m c) (m ∷ st') (way s.ways k).next
+  turn_new z h pos-c = record {
     rest = t.rest;
-    linked = subst (λ (y : ℕ). Linked next from arms y t.rest) (sym e) t.linked;
+    linked = on;
     some = λ x i. g.some x (subst (λ (l : List ℕ). In x l) (sym t.is) (inr i));
     came = λ x. same_or x m (λ s. inr (subst New (sym s) (was, at, first_in, inl refl)))
         (λ d. ⊎_elim (λ s. inl (other x d ∙ s)) (λ s. inr (s.0, other x d ∙ s.1, s.2, inr s.3)) (g.came x));
-    whole = λ x i. same_or x m (λ s. inl (subst (λ (y : ℕ). 0 < get_or (set q b c) y 0) (sym s) (omega (arith, at, pos-c))))
+    whole = λ x i. same_or x m (λ s. inl (subst (λ (y : ℕ). 0 < get_or (set q m c) y 0) (sym s) (omega (arith, at, pos-c))))
         (λ d. ⊎_elim (λ s. inl (omega (arith, s, other x d))) (λ j. ⊎_elim (λ s. absurd (d s)) inr (subst (λ (l : List ℕ). In x l) t.is j)) (g.whole x i));
     held = λ x i. inr (g.held x i);
     only = λ x i. same_or x m (λ s. inr (subst Fresh (sym s) (was, at, first_in)))
         (λ d. ⊎_elim (λ s. absurd (d s)) (λ j. ⊎_elim inl (λ s. inr (s.0, other x d ∙ s.1, s.2)) (g.only x j)) i);
   }
     where
-      at : get_or (set q b c) m 0 ≡ c
-      at = ap (λ (y : ℕ). get_or (set q y c) m 0) eb ∙ get_or-set_same q m c 0 h
+      at : get_or (set q m c) m 0 ≡ c
+      at = get_or-set_same q m c 0 h
 
-      other : (x : ℕ) → (x ≡ m → ⊥) → get_or (set q b c) x 0 ≡ get_or q x 0
-      other x d = get_or-set_other q b x c 0 (λ s. d (s ∙ eb))
+      other : (x : ℕ) → (x ≡ m → ⊥) → get_or (set q m c) x 0 ≡ get_or q x 0
+      other x d = get_or-set_other q m x c 0 d
 
       was : get_or p m 0 ≡ 0
       was = ⊎_elim (λ s. sym s ∙ z) (λ s. s.0) (g.came m)
 
       New : ℕ → Type 0
-      New x = (get_or p x 0 ≡ 0) × (get_or (set q b c) x 0 ≡ c) × In x w × In x (m ∷ st')
+      New x = (get_or p x 0 ≡ 0) × (get_or (set q m c) x 0 ≡ c) × In x w × In x (m ∷ st')
 
       Fresh : ℕ → Type 0
-      Fresh x = (get_or p x 0 ≡ 0) × (get_or (set q b c) x 0 ≡ c) × In x w
+      Fresh x = (get_or p x 0 ≡ 0) × (get_or (set q m c) x 0 ≡ c) × In x w
 
   -- the stack as the code has it
-  pub turn_new_on : {fs gs : List Frame} (k' b a : ℕ) → st' ≡ blocks_on fs → gs ≡ frame m a ∷ fs → k' ≡ get_or next (k - 1) 0 → b ≡ m → get_or q m 0 ≡ 0 → m < length q → 0 < c → Going next from w c p st (set q b c) (blocks_on gs) k'
+  pub turn_new_on : {fs gs : List Frame} → st' ≡ blocks_on fs → gs ≡ frame m 0 ∷ fs → get_or q m 0 ≡ 0 → m < length q → 0 < c → Going s w c p st (set q m c) (blocks_on gs) (way s.ways k).next
   unfolding blocks_on
-  turn_new_on {fs} {gs} k' b a es eg e eb z h pos-c =
-      let i : m ∷ st' ≡ blocks_on gs = ap (λ (l : List ℕ). m ∷ l) es ∙ sym (ap blocks_on eg) in
-      subst (λ (l : List ℕ). Going next from w c p st (set q b c) l k') i (turn_new k' b e eb z h pos-c)
+  turn_new_on {fs} {gs} es eg z h pos-c = rw (eg, ← es) (turn_new z h pos-c)
 
 -- ---- how many are in pieces
-module _ (q : List ℕ) (m b c : ℕ) (eb : b ≡ m) (sized : length q ≡ blocks) (low : m < blocks) (free : get_or q m 0 ≡ 0) (pos : 0 < c) where
-  pub join_more : marked (set q b c) blocks ≡ suc (marked q blocks)
-  join_more = ap (λ (y : ℕ). marked (set q y c) blocks) eb ∙ marked_more q blocks m c low (omega (arith, sized, low)) free pos
-
-pub join_sized : (q : List ℕ) (b c : ℕ) → length q ≡ blocks → length (set q b c) ≡ blocks
-join_sized q b c h = simp length-set h
-
 -- a block is taken off the stack, and as many are put on it as join
-pub join_less : (q q' : List ℕ) (len rest len' : ℕ) → len ≡ rest + 1 → len' + marked q blocks ≡ rest + marked q' blocks → len' + (blocks - marked q' blocks) < len + (blocks - marked q blocks)
+pub join_less : (q q' : List ℕ) (len rest len' : ℕ) → len ≡ suc rest → len' + marked q blocks ≡ rest + marked q' blocks → len' + (blocks - marked q' blocks) < len + (blocks - marked q blocks)
 join_less q q' len rest len' e f = omega (arith, e, f, marked_most q blocks, marked_most q' blocks)
 
 -- ---- a piece, list by list
@@ -158,23 +159,23 @@ pub record Reaching (f : ℕ → List ℕ) (r c : ℕ) (p q st : List ℕ) : Typ
   pub stacked : (x : ℕ) → In x st → (get_or p x 0 ≡ 0) × (get_or q x 0 ≡ c) × Back f p r x
   pub shut : (y : ℕ) → get_or p y 0 ≡ 0 → 0 < get_or q y 0 → In y st ⊎ ((x : ℕ) → In x (f y) → 0 < get_or q x 0)
 
-module _ (f : ℕ → List ℕ) (r c : ℕ) (p : List ℕ) (b a : ℕ) {fs : List Frame} (eb : b ≡ r) (on : fs ≡ frame r a ∷ []) (sized : length p ≡ blocks) (low : r < blocks) (free : get_or p r 0 ≡ 0) where
-  root_at : get_or (set p b c) r 0 ≡ c
-  root_at = ap (λ (y : ℕ). get_or (set p y c) r 0) eb ∙ get_or-set_same p r c 0 (omega (arith, sized, low))
+module _ (f : ℕ → List ℕ) (r c : ℕ) (p : List ℕ) {fs : List Frame} (on : fs ≡ frame r 0 ∷ []) (low : r < length p) (free : get_or p r 0 ≡ 0) where
+  root_at : get_or (set p r c) r 0 ≡ c
+  root_at = get_or-set_same p r c 0 low
 
-  root_else : (x : ℕ) → (x ≡ r → ⊥) → get_or (set p b c) x 0 ≡ get_or p x 0
-  root_else x d = get_or-set_other p b x c 0 (λ s. d (s ∙ eb))
+  root_else : (x : ℕ) → (x ≡ r → ⊥) → get_or (set p r c) x 0 ≡ get_or p x 0
+  root_else x d = get_or-set_other p r x c 0 d
 
   Rooted : ℕ → Type 0
-  Rooted x = (get_or p x 0 ≡ 0) × (get_or (set p b c) x 0 ≡ c) × Back f p r x
+  Rooted x = (get_or p x 0 ≡ 0) × (get_or (set p r c) x 0 ≡ c) × Back f p r x
 
   rooted : (x : ℕ) → x ≡ r → Rooted x
   unfolding Rooted
   rooted x e = subst Rooted (sym e) (free, root_at, here refl)
 
-  pub reach_start : Reaching f r c p (set p b c) (blocks_on fs)
+  pub reach_start : Reaching f r c p (set p r c) (blocks_on fs)
   unfolding blocks_on Rooted
-  reach_start = subst (λ (l : List Frame). Reaching f r c p (set p b c) (blocks_on l)) (sym on) (record {
+  reach_start = subst (λ (l : List Frame). Reaching f r c p (set p r c) (blocks_on l)) (sym on) (record {
     came = λ x. same_or x r (λ e. inr (rooted x e)) (λ d. inl (root_else x d));
     root = root_at;
     stacked = λ x i. ⊎_elim (rooted x) (λ z. absurd z) i;
@@ -222,13 +223,6 @@ reach_end f r c p q fs e n g = subst (λ (k : ℕ). Collected f r k p q) e (reco
   root = g.root;
   shut = λ y z h. ⊎_elim (λ i. absurd (subst (λ (l : List Frame). In y (blocks_on l)) n i)) (λ o. o) (g.shut y z h);
 })
-
--- the list of one block
-pub listing : {head next from : List ℕ} {f : ℕ → List ℕ} → Lists head next from arms f → (y k : ℕ) → k ≡ get_or head y 0 → Listing next from k
-listing {head} {next} {from} {f} h y k e = record { list = f y; linked = subst (λ (z : ℕ). Linked next from arms z (f y)) (sym e) (h.linked y); low = h.low y }
-
-pub linked_at : {head next from : List ℕ} {f : ℕ → List ℕ} → Lists head next from arms f → (y k : ℕ) → k ≡ get_or head y 0 → Linked next from arms k (f y)
-linked_at {head} {next} {from} {f} h y k e = subst (λ (z : ℕ). Linked next from arms z (f y)) (sym e) (h.linked y)
 
 -- ---- one block of the order more
 module _ {f : ℕ → List ℕ} {order p : List ℕ} (i : ℕ) (h : Sorted f order i p) where

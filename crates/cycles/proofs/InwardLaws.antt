@@ -1,84 +1,65 @@
 -- The lists of arms in: what a store adds to them, and which blocks they have in the end. Assumes nothing.
-use Prim.Native.Nat.{ℕ, zero, suc, ◌+◌, ◌-◌, ◌≤◌, ◌<◌}
-use native.Mathlib.Nat.{add-zero, add-suc}
-use native.Mathlib.Numerals.{add-one}
-use native.Mathlib.Omega.{arith}
-use mathlib.Core.Path.{◌≡◌, refl, sym, ap, ◌∙◌, subst}
-use mathlib.Core.Bool.{Bool, true, false, cond}
-use mathlib.Core.Logic.{◌⊎◌, inl, inr, ⊎_elim}
-use mathlib.Core.List.{List, [], ◌∷◌}
-use lib.Dec.{eqb}
-use lib.ListN.{get_or, set, length-set}
+use Rattle.std.proofs.Common.{ℕ, zero, suc, ◌+◌, ◌≤◌, ◌<◌, ◌≡◌, Bool, true, false, cond, ◌⊎◌, inl, inr, List, [], ◌∷◌, length, get_or, set, replicate, refl, sym, ap, ◌∙◌, subst, arith, add-one, eqb}
+use Rattle.std.specs.Prelude.{Option, None, Some}
+use mathlib.Core.Logic.{⊎_elim}
 use lib.Seq.{get_or-set_same, get_or-set_other}
 use borrow.Author.Tests.{eqb-true, eqb-false, eq-eqb}
 use Rattle.limits.specs.Limits.{blocks, arms}
 use Rattle.lists.proofs.Choices.{cond_elim, split_lt}
 use Rattle.rules.proofs.Membership.{In}
-use Rattle.cycles.specs.Inward.{Linked, Sized, Lists, added, entered, ins, arms_to}
+use Rattle.records.specs.declared.Graph.{Graph}
+use Rattle.cycles.specs.declared.Way.{Way}
+use Rattle.cycles.specs.declared.Inward.{Inward}
+use Rattle.cycles.specs.Inward.{way, Linked, Lists, added, entered, ins}
 
 -- ---- one more arm in
 
--- places from `top` on are not looked at
-linked_keep : (next from : List ℕ) (top v w k : ℕ) (l : List ℕ) → Linked next from top k l → Linked (set next top v) (set from top w) (suc top) k l
-linked_keep next from top v w k [] h = h
-linked_keep next from top v w k (m ∷ l) h =
-    let ne : k - 1 ≡ top → ⊥ = λ e. omega (arith, e, h.0, h.1) in
-    let a = get_or-set_other next top (k - 1) v 0 ne in
-    let b = get_or-set_other from top (k - 1) w 0 ne in (
-      h.0,
-      omega (arith, h.1),
-      b ∙ h.2,
-      omega (arith, a, h.3),
-      subst (λ (x : ℕ). Linked (set next top v) (set from top w) (suc top) x l) (sym a) (linked_keep next from top v w (get_or next (k - 1) 0) l h.4),
-    )
+-- ways from n on are not looked at
+linked_keep : (ways : List Way) (top n : ℕ) (w : Way) (o : Option ℕ) (l : List ℕ) → n ≤ top → Linked ways n o l → Linked (set ways top w) n o l
+linked_keep ways top n w o [] q h = h
+linked_keep ways top n w o (m ∷ l) q h =
+    let ne : h.0 ≡ top → ⊥ = omega (arith, h.2) in
+    let a = get_or-set_other ways top h.0 w (record { from = 0; next = None }) ne in
+    let at = linked_keep ways top h.0 w (way ways h.0).next l (omega (arith, h.2)) h.4 in
+    (h.0, h.1, h.2, rw a h.3, rw a at)
 
--- a start is within the places
-linked_top : (next from : List ℕ) (top k : ℕ) (l : List ℕ) → Linked next from top k l → k ≤ top
-linked_top next from top k [] h = omega (arith, h)
-linked_top next from top k (m ∷ l) h = h.1
+pub linked_wide : (ways : List Way) (n more : ℕ) (o : Option ℕ) (l : List ℕ) → n ≤ more → Linked ways n o l → Linked ways more o l
+linked_wide ways n more o [] q h = h
+linked_wide ways n more o (m ∷ l) q h = (h.0, h.1, omega (arith, q, h.2), h.3, h.4)
 
-module _ (head next from : List ℕ) (s : Sized head next from) (top m t : ℕ) (within : top < arms) (small : m < blocks) (inside : t < blocks) where
-  pub link_sized : Sized (set head t (top + 1)) (set next top (get_or head t 0)) (set from top m)
-  link_sized = record { head_sized = simp length-set s.head_sized; next_sized = simp length-set s.next_sized; from_sized = simp length-set s.from_sized }
+module _ (s : Inward) (m t : ℕ) (room : s.len < length s.ways) (within : s.len < arms) (small : m < blocks) (inside : t < length s.head) where
+  abbrev pub stored : Way
+  stored = record { from = m; next = get_or s.head t None }
 
-  link_more : (f : ℕ → List ℕ) → Lists head next from top f → Lists (set head t (top + 1)) (set next top (get_or head t 0)) (set from top m) (suc top) (added f m t)
+  abbrev pub linked : Inward
+  linked = record { head = set s.head t (Some s.len); ways = set s.ways s.len stored; len = s.len + 1 }
+
+  pub link_more : (f : ℕ → List ℕ) → Lists s f → Lists linked (added f m t)
   unfolding added
-  link_more f h = record { linked = at; low = λ y x i. small_at y x (eqb y t) i }
+  link_more f h = record { fits = omega (arith, within); linked = at; low = λ y x i. small_at y x (eqb y t) i }
     where
       small_at : (y x : ℕ) (b : Bool) → In x (cond b (m ∷ f y) (f y)) → x < blocks
       small_at y x true (inl e) = omega (arith, e, small)
       small_at y x true (inr i) = h.low y x i
       small_at y x false i = h.low y x i
 
-      here : Linked (set next top (get_or head t 0)) (set from top m) (suc top) (top + 1) (m ∷ f t)
+      kept : (o : Option ℕ) (l : List ℕ) → Linked s.ways s.len o l → Linked linked.ways s.len o l
+      kept o l = linked_keep s.ways s.len s.len stored o l (omega arith)
+
+      here : Linked linked.ways linked.len (Some s.len) (m ∷ f t)
       here =
-          let e : top + 1 - 1 ≡ top = omega arith in
-          let a : get_or (set next top (get_or head t 0)) (top + 1 - 1) 0 ≡ get_or head t 0 = ap (λ (x : ℕ). get_or (set next top (get_or head t 0)) x 0) e ∙ get_or-set_same next top (get_or head t 0) 0 (omega (arith, s.next_sized, within)) in
-          let b : get_or (set from top m) (top + 1 - 1) 0 ≡ m = ap (λ (x : ℕ). get_or (set from top m) x 0) e ∙ get_or-set_same from top m 0 (omega (arith, s.from_sized, within)) in (
-            omega arith,
-            omega arith,
-            b,
-            omega (arith, a, linked_top next from top (get_or head t 0) (f t) (h.linked t)),
-            subst (λ (x : ℕ). Linked (set next top (get_or head t 0)) (set from top m) (suc top) x (f t)) (sym a) (linked_keep next from top (get_or head t 0) m (get_or head t 0) (f t) (h.linked t)),
-          )
+          let a = get_or-set_same s.ways s.len stored (record { from = 0; next = None }) room in
+          (s.len, refl, omega arith, rw a refl, rw a (kept (get_or s.head t None) (f t) (h.linked t)))
 
-      at : (y : ℕ) → Linked (set next top (get_or head t 0)) (set from top m) (suc top) (get_or (set head t (top + 1)) y 0) (cond (eqb y t) (m ∷ f y) (f y))
-      at y = cond_elim (λ (l : List ℕ). Linked (set next top (get_or head t 0)) (set from top m) (suc top) (get_or (set head t (top + 1)) y 0) l) (eqb y t) (m ∷ f y) (f y) same other
-        where
-          same : eqb y t ≡ true → Linked (set next top (get_or head t 0)) (set from top m) (suc top) (get_or (set head t (top + 1)) y 0) (m ∷ f y)
-          same e =
-              let q = eqb-true y t e in
-              subst (λ (z : ℕ). Linked (set next top (get_or head t 0)) (set from top m) (suc top) (get_or (set head t (top + 1)) z 0) (m ∷ f z)) (sym q)
-              (subst (λ (z : ℕ). Linked (set next top (get_or head t 0)) (set from top m) (suc top) z (m ∷ f t)) (sym (get_or-set_same head t (top + 1) 0 (omega (arith, s.head_sized, inside)))) here)
-
-          other : eqb y t ≡ false → Linked (set next top (get_or head t 0)) (set from top m) (suc top) (get_or (set head t (top + 1)) y 0) (f y)
-          other e =
-              subst (λ (z : ℕ). Linked (set next top (get_or head t 0)) (set from top m) (suc top) z (f y)) (sym (get_or-set_other head t y (top + 1) 0 (eqb-false y t e)))
-              (linked_keep next from top (get_or head t 0) m (get_or head y 0) (f y) (h.linked y))
-
-  -- the block as the code has it
-  pub link_more_at : (t' : ℕ) → t ≡ t' → (f : ℕ → List ℕ) → Lists head next from top f → Lists (set head t (top + 1)) (set next top (get_or head t 0)) (set from top m) (suc top) (added f m t')
-  link_more_at t' e f h = subst (λ (z : ℕ). Lists (set head t (top + 1)) (set next top (get_or head t 0)) (set from top m) (suc top) (added f m z)) e (link_more f h)
+      at : (y : ℕ) → Linked linked.ways linked.len (get_or linked.head y None) (cond (eqb y t) (m ∷ f y) (f y))
+      at y = cond_elim (λ (l : List ℕ). Linked linked.ways linked.len (get_or linked.head y None) l) (eqb y t) (m ∷ f y) (f y)
+          (λ e.
+          let q = eqb-true y t e in
+          subst (λ (z : ℕ). Linked linked.ways linked.len (get_or linked.head z None) (m ∷ f z)) (sym q)
+          (subst (λ (z : Option ℕ). Linked linked.ways linked.len z (m ∷ f t)) (sym (get_or-set_same s.head t (Some s.len) None inside)) here))
+          (λ e.
+          subst (λ (z : Option ℕ). Linked linked.ways linked.len z (f y)) (sym (get_or-set_other s.head t y (Some s.len) None (eqb-false y t e)))
+          (linked_wide linked.ways s.len linked.len (get_or s.head y None) (f y) (omega arith) (kept (get_or s.head y None) (f y) (h.linked y))))
 
 -- ---- which blocks the lists have
 
@@ -127,82 +108,54 @@ module _ (f : ℕ → List ℕ) (m : ℕ) (to : List ℕ) (q : ℕ) where
       let g : get_or to (q + n) 0 ≡ y = ap (λ (k : ℕ). get_or to (q + k) 0) (sym e) ∙ a.goes in
       subst (λ (z : ℕ). In m (added (entered f m to q n) m (get_or to (q + n) 0) z)) g (added_new (entered f m to q n) m (get_or to (q + n) 0)))
 
-module _ (listed first count to : List ℕ) where
+module _ (t : Graph) where
   -- the block at place `place` is x, and has an arm to y
   pub record From (i y x : ℕ) : Type 0 where
     pub place : ℕ
     pub within : place < i
-    pub listed_is : get_or listed place 0 ≡ x
-    pub arm : Arm to (get_or first x 0) (get_or count x 0) y
+    pub listed_is : get_or t.b.listed place 0 ≡ x
+    pub arm : Arm t.a.to (get_or t.a.first x 0) (get_or t.a.count x 0) y
 
-  pub ins_from : (i y x : ℕ) → In x (ins listed first count to i y) → From i y x
+  pub ins_from : (i y x : ℕ) → In x (ins t i y) → From i y x
   unfolding ins
   ins_from zero y x j = absurd j
   ins_from (suc i) y x j =
-      let m = get_or listed i 0 in
+      let m = get_or t.b.listed i 0 in
       ⊎_elim (λ k. let a = ins_from i y x k in record { place = a.place; within = omega (arith, a.within); listed_is = a.listed_is; arm = a.arm })
-      (λ a. record { place = i; within = omega arith; listed_is = sym a.0; arm = subst (λ (z : ℕ). Arm to (get_or first z 0) (get_or count z 0) y) (sym a.0) a.1 })
-      (entered_in (ins listed first count to i) m to (get_or first m 0) (get_or count m 0) y x j)
+      (λ a. record { place = i; within = omega arith; listed_is = sym a.0; arm = subst (λ (z : ℕ). Arm t.a.to (get_or t.a.first z 0) (get_or t.a.count z 0) y) (sym a.0) a.1 })
+      (entered_in (ins t i) m t.a.to (get_or t.a.first m 0) (get_or t.a.count m 0) y x j)
 
-  pub from_ins : (i y x : ℕ) → From i y x → In x (ins listed first count to i y)
+  pub from_ins : (i y x : ℕ) → From i y x → In x (ins t i y)
   unfolding ins
   from_ins zero y x a = absurd (omega (arith, a.within))
   from_ins (suc i) y x a =
-      let m = get_or listed i 0 in
+      let m = get_or t.b.listed i 0 in
       split_lt a.place i
-      (λ h. in_entered (ins listed first count to i) m to (get_or first m 0) (get_or count m 0) y x (from_ins i y x (record { place = a.place; within = h; listed_is = a.listed_is; arm = a.arm })))
+      (λ h. in_entered (ins t i) m t.a.to (get_or t.a.first m 0) (get_or t.a.count m 0) y x (from_ins i y x (record { place = a.place; within = h; listed_is = a.listed_is; arm = a.arm })))
       (λ h.
       let e : a.place ≡ i = omega (arith, h, a.within) in
-      let g : m ≡ x = ap (λ (k : ℕ). get_or listed k 0) (sym e) ∙ a.listed_is in
-      subst (λ (z : ℕ). In z (entered (ins listed first count to i) m to (get_or first m 0) (get_or count m 0) y)) g
-      (entered_new (ins listed first count to i) m to (get_or first m 0) (get_or count m 0) y (subst (λ (z : ℕ). Arm to (get_or first z 0) (get_or count z 0) y) (sym g) a.arm)))
+      let g : m ≡ x = ap (λ (k : ℕ). get_or t.b.listed k 0) (sym e) ∙ a.listed_is in
+      subst (λ (z : ℕ). In z (entered (ins t i) m t.a.to (get_or t.a.first m 0) (get_or t.a.count m 0) y)) g
+      (entered_new (ins t i) m t.a.to (get_or t.a.first m 0) (get_or t.a.count m 0) y (subst (λ (z : ℕ). Arm t.a.to (get_or t.a.first z 0) (get_or t.a.count z 0) y) (sym g) a.arm)))
 
 -- ---- as the loops go
+pub none_get : (n y : ℕ) → ◌≡◌ {A = Option ℕ} (get_or (replicate n None) y None) None
+none_get zero y = refl
+none_get (suc n) zero = refl
+none_get (suc n) (suc y) = none_get n y
 
-linked_wide : (next from : List ℕ) (top more k : ℕ) (l : List ℕ) → top ≤ more → Linked next from top k l → Linked next from more k l
-linked_wide next from top more k [] q h = h
-linked_wide next from top more k (m ∷ l) q h = (h.0, omega (arith, q, h.1), h.2, h.3, linked_wide next from top more (get_or next (k - 1) 0) l q h.4)
+pub enter_none : {s : Inward} {f : ℕ → List ℕ} (m : ℕ) (to : List ℕ) (q : ℕ) → Lists s f → Lists s (entered f m to q 0)
+unfolding entered
+enter_none m to q h = h
 
-lists_wide : {head next from : List ℕ} {top : ℕ} {f : ℕ → List ℕ} → top ≤ arms → Lists head next from top f → Lists head next from arms f
-lists_wide {head} {next} {from} {top} {f} q h = record { linked = λ y. linked_wide next from top arms (get_or head y 0) (f y) q (h.linked y); low = h.low }
+pub enter_more : {s : Inward} (f : ℕ → List ℕ) (m : ℕ) (to : List ℕ) (q j : ℕ) → Lists s (added (entered f m to q j) m (get_or to (q + j) 0)) → Lists s (entered f m to q (j + 1))
+unfolding entered
+enter_more f m to q j h = rw (add-one j) h
 
-pub lists_none : {head next from : List ℕ} → ((y : ℕ) → get_or head y 0 ≡ 0) → (listed first count to : List ℕ) → Lists head next from 0 (ins listed first count to 0)
+pub ins_none : (t : Graph) (s : Inward) → s.len ≡ 0 → ((y : ℕ) → get_or s.head y None ≡ None) → Lists s (ins t 0)
 unfolding ins
-lists_none e listed first count to = record { linked = e; low = λ y x i. absurd i }
+ins_none t s z e = record { fits = omega (arith, z); linked = e; low = λ y x i. absurd i }
 
-pub arms_fit : (listed count : List ℕ) (i n : ℕ) → i < n → arms_to listed count i + get_or count (get_or listed i 0) 0 ≤ arms_to listed count n
-unfolding arms_to
-arms_fit listed count i zero h = absurd (omega (arith, h))
-arms_fit listed count i (suc n) h = split_lt i n (λ l. omega (arith, arms_fit listed count i n l)) (λ l. let e : i ≡ n = omega (arith, h, l) in subst (λ (z : ℕ). arms_to listed count z + get_or count (get_or listed z 0) 0 ≤ arms_to listed count n + get_or count (get_or listed n 0) 0) (sym e) (omega arith))
-
-module _ {head next from : List ℕ} (f : ℕ → List ℕ) (m : ℕ) (to : List ℕ) (q : ℕ) where
-  pub enter_none : {at : ℕ} → Lists head next from at f → Lists head next from (at + 0) (entered f m to q 0)
-  unfolding entered
-  enter_none {at} h = subst (λ (k : ℕ). Lists head next from k f) (sym (add-zero at)) h
-
-  pub enter_more : (at j : ℕ) → Lists head next from (suc (at + j)) (added (entered f m to q j) m (get_or to (q + j) 0)) → Lists head next from (at + (j + 1)) (entered f m to q (j + 1))
-  unfolding entered
-  enter_more at j h = rw (add-one j, add-suc at j) h
-
-  pub enter_end : (at j c : ℕ) → j ≡ c → Lists head next from (at + j) (entered f m to q j) → Lists head next from (at + c) (entered f m to q c)
-  enter_end at j c e h = subst (λ (k : ℕ). Lists head next from (at + k) (entered f m to q k)) e h
-
-module _ {head next from : List ℕ} (listed first count to : List ℕ) where
-  -- one listed block more, as the code reads its arms
-  pub ins_more : (i at q c : ℕ) → q ≡ get_or first (get_or listed i 0) 0 → c ≡ get_or count (get_or listed i 0) 0 →
-      Lists head next from (at + c) (entered (ins listed first count to i) (get_or listed i 0) to q c) → Lists head next from (at + c) (ins listed first count to (i + 1))
-  unfolding ins
-  ins_more i at q c eq ec h =
-      let f = entered (ins listed first count to i) (get_or listed i 0) to in
-      rw (add-one i) (subst (λ (k : ℕ). Lists head next from (at + c) (f (get_or first (get_or listed i 0) 0) k)) ec (subst (λ (k : ℕ). Lists head next from (at + c) (f k c)) eq h))
-
-  pub lists_done : (at i n : ℕ) → i ≡ n → at ≡ arms_to listed count i → arms_to listed count n ≤ arms → Lists head next from at (ins listed first count to i) → Lists head next from arms (ins listed first count to n)
-  lists_done at i n e a r h = subst (λ (k : ℕ). Lists head next from arms (ins listed first count to k)) e (lists_wide (omega (arith, a, r, ap (arms_to listed count) e)) h)
-
-pub arms_more : (listed count : List ℕ) (i at c : ℕ) → at ≡ arms_to listed count i → c ≡ get_or count (get_or listed i 0) 0 → at + c ≡ arms_to listed count (i + 1)
-unfolding arms_to
-arms_more listed count i at c e ec = rw (add-one i) (omega (arith, e, ec))
-
-pub arms_none : (listed count : List ℕ) → 0 ≡ arms_to listed count 0
-unfolding arms_to
-arms_none listed count = refl
+pub ins_more : {s : Inward} (t : Graph) (i m : ℕ) → m ≡ get_or t.b.listed i 0 → Lists s (entered (ins t i) m t.a.to (get_or t.a.first m 0) (get_or t.a.count m 0)) → Lists s (ins t (i + 1))
+unfolding ins
+ins_more {s} t i m e h = rw (add-one i, ← e) h

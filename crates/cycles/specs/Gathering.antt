@@ -1,19 +1,11 @@
 -- The second walk: a table of pieces by block number, 0 for a block that is in none yet.
 use Rattle.std.specs.Prelude.{ℕ, suc, ◌<◌, ◌≡◌, ◌⊎◌, List, map, get_or}
-use Rattle.limits.specs.Limits.{blocks, arms}
 use Rattle.rules.proofs.Membership.{In}
 use Rattle.rules.proofs.StackWalk.{Frame}
-use Rattle.cycles.specs.Inward.{Linked, Lists}
 
 -- the blocks on a stack
 unfoldable pub blocks_on : List Frame → List ℕ
 blocks_on st = map (λ (f : Frame). f.block) st
-
--- the list w starts at k, and its blocks have room in the tables
-pub record Listing (next from : List ℕ) (k : ℕ) : Type 0 where
-  pub list : List ℕ
-  pub linked : Linked next from arms k list
-  pub low : (x : ℕ) → In x list → x < blocks
 
 -- the blocks of w that were in no piece are in piece c and on the stack
 pub record Gathered (w : List ℕ) (c : ℕ) (p : List ℕ) (st : List ℕ) (q : List ℕ) (st' : List ℕ) : Type 0 where
@@ -32,11 +24,6 @@ pub record Collected (f : ℕ → List ℕ) (r c : ℕ) (p q : List ℕ) : Type 
   pub came : (x : ℕ) → (get_or q x 0 ≡ get_or p x 0) ⊎ ((get_or p x 0 ≡ 0) × (get_or q x 0 ≡ c) × Back f p r x)
   pub root : get_or q r 0 ≡ c
   pub shut : (y : ℕ) → get_or p y 0 ≡ 0 → 0 < get_or q y 0 → (x : ℕ) → In x (f y) → 0 < get_or q x 0
-
--- the tables have lists
-pub record Inward (head next from : List ℕ) : Type 0 where
-  pub lists : ℕ → List ℕ
-  pub has : Lists head next from arms lists
 
 -- the pieces of the first i of an order: those of its blocks in turn that are in none yet
 pub data Sorted (f : ℕ → List ℕ) (order : List ℕ) : ℕ → List ℕ → Type 0 where

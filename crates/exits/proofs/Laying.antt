@@ -1,317 +1,264 @@
 -- The tables while an order is laid. Assumes nothing.
-use Prim.Native.Nat.{ℕ, zero, suc, ◌+◌, ◌-◌, ◌≤◌, ◌<◌}
-use native.Mathlib.Nat.{add-zero, add-suc}
-use native.Mathlib.Omega.{arith}
-use mathlib.Core.Path.{◌≡◌, refl, sym, ap, ◌∙◌, subst}
-use mathlib.Core.Bool.{Bool, true, cond}
-use mathlib.Core.List.{List, [], ◌∷◌, ◌++◌, append_assoc}
-use mathlib.Core.Option.{Option}
-use lib.Dec.{leb}
-use lib.ListN.{length, get_or, set, length-set}
+use Rattle.std.proofs.Common.{ℕ, zero, suc, ◌+◌, ◌-◌, ◌≤◌, ◌<◌, ◌≡◌, Bool, true, cond, List, [], ◌∷◌, ◌++◌, length, get_or, refl, sym, ap, ◌∙◌, subst, arith, add-zero, add-suc, append_assoc}
+use Rattle.std.specs.Prelude.{Option}
+use lib.ListN.{set, length-set}
 use lib.Seq.{get_or-set_same, get_or-set_other}
 use borrow.Author.Tests.{le-leb, lt-leb}
 use Rattle.limits.specs.Limits as most
 use Rattle.rules.specs.declared.Leaving.{Leaving}
-use Rattle.rules.specs.declared.Leaving.TheVariants.{Nothing, Jump, Branch, Exchanged, Bridge}
-use Rattle.rules.specs.Graph as graph
+use Rattle.rules.specs.declared.Leaving.TheVariants.{Bridge}
 use Rattle.rules.specs.Graph.{Arm, with_arms}
-use Rattle.rules.specs.Exits.{Place, no_arm, edges, exit_of, arms_left, laid_block, bridge_for, bridge_of, new_after}
-use Rattle.rules.proofs.Membership.{pick_ind}
-use Rattle.records.specs.declared.Blocks.{Blocks}
+use Rattle.rules.specs.Exits.{Place, no_arm, exit_of, laid_block, bridge_for, bridge_of, new_after}
 use Rattle.records.specs.declared.Arms.{Arms}
-use Rattle.records.specs.Tables.{arm_at, arms_from, leaves, block_at, only_arms, arm_tables}
+use Rattle.records.specs.declared.Graph.{Graph}
+use Rattle.records.specs.Tables.{arm_at, arms_from, leaves, block_at}
 use Rattle.records.proofs.TableLaws.{arms_kept, leaves_count}
-use Rattle.exits.specs.Lays.{Below, bridge_arm, places_to, arms_to, Orderly}
-use Rattle.exits.proofs.Steps.{leave_at, new_to, laid_at, laid_to, Placed, at, Laying}
-use Rattle.exits.proofs.LeftArms.{arms_get, put, put_same, put_other}
-use Rattle.exits.proofs.Adding.{new_blocks, new_arms, new_exits, Only, new_place, places_more, placed_more}
+use Rattle.exits.specs.declared.Laid.{Laid}
+use Rattle.exits.specs.Lays.{Left, BridgeWithin, cold_at, places_of, arms_to, Orderly, with_arm, with_place, with_bridge}
+use Rattle.exits.proofs.Steps.{leave_at, new_to, laid_at, laid_to, Sized, Placed, at, Laying}
+use Rattle.exits.proofs.Decisions.{edges_within, Bridgeless, bridge_none}
+use Rattle.exits.proofs.LeftArms.{arms_get, put_same, put_other}
+use Rattle.exits.proofs.Adding.{Only, added, new_place, places_more, placed_more, sized_more}
 
--- ---- bridges
-abbrev pub Within2 : ℕ → Leaving → Type 0
-Within2 n Nothing = Unit
-Within2 n Jump = Unit
-Within2 n Branch = Unit
-Within2 n Exchanged = Unit
-Within2 n (Bridge i) = i < n
+-- what there is room for when block n with c arms is laid next
+pub record Room (l : Laid) (c n : ℕ) : Type 0 where
+  pub n_low : n < most.numbers
+  pub new_low : most.numbers + l.bridges < most.blocks
+  pub place : suc l.graph.blocks < most.blocks
+  pub arm : l.graph.arms + c < most.arms
 
--- a bridge takes one of the block's arms
-pub bridge_below : (next : Option ℕ) (end : ℕ) (l : List Arm) → Within2 (length l) (edges next end l)
-unfolding edges
-bridge_below next end [] = tt
-bridge_below next end (x ∷ []) = pick_ind (Within2 1) _ Nothing Jump tt tt
-bridge_below next end (x ∷ y ∷ l) =
-    pick_ind P _ Nothing _ tt
-    (pick_ind P _ _ _ (pick_ind P _ Nothing (Bridge 0) tt (omega arith))
-    (pick_ind P _ _ _ (pick_ind P _ Nothing (Bridge 1) tt (omega arith))
-    (pick_ind P _ Branch _ tt (pick_ind P _ Exchanged (Bridge 1) tt (omega arith)))))
-  where
-    P : Leaving → Type 0
-    P = Within2 (suc (suc (length l)))
-
-pub bridge_some : (v : Leaving) → (bridge_arm v ≡ most.arms → ⊥) → v ≡ Bridge (bridge_arm v)
-unfolding bridge_arm
-bridge_some Nothing f = absurd (f refl)
-bridge_some Jump f = absurd (f refl)
-bridge_some Branch f = absurd (f refl)
-bridge_some Exchanged f = absurd (f refl)
-bridge_some (Bridge i) f = refl
-
-pub bridge_none : (v : Leaving) (n new : ℕ) (cold : Bool) (b : graph.Block) → Within2 n v → n ≤ most.arms → bridge_arm v ≡ most.arms → (bridge_of new cold b v ≡ []) × (new_after new v ≡ new)
-unfolding bridge_arm bridge_of new_after
-bridge_none Nothing n new cold b w h e = (refl, refl)
-bridge_none Jump n new cold b w h e = (refl, refl)
-bridge_none Branch n new cold b w h e = (refl, refl)
-bridge_none Exchanged n new cold b w h e = (refl, refl)
-bridge_none (Bridge i) n new cold b w h e = absurd (omega (arith, w, h, e))
-
--- the arms by the tables that they stand in
-pub arms_only : (first count to args weight : List ℕ) (c f : ℕ) → arms_from (arm_tables first count to args weight) f c ≡ arms_from (only_arms to args weight) f c
-unfolding arm_at
-arms_only first count to args weight c f = arms_kept (arm_tables first count to args weight) (only_arms to args weight) (f + c) (λ x h. refl) c f (omega arith)
-
-module _ (b₀ : Blocks) (a₀ : Arms) (o : List ℕ) (split : ℕ) where
-  arms_to_le : (i k : ℕ) → arms_to a₀.count o i ≤ arms_to a₀.count o (i + k)
+module _ (g : Graph) (o : List ℕ) (split : Option ℕ) where
+  arms_to_le : (i k : ℕ) → arms_to g.a.count o i ≤ arms_to g.a.count o (i + k)
   unfolding arms_to
   arms_to_le i zero = rw add-zero (omega arith)
   arms_to_le i (suc k) = rw add-suc (omega (arith, arms_to_le i k))
 
-  pub arms_room : Orderly a₀.count o → (i : ℕ) → i < length o → arms_to a₀.count o i + get_or a₀.count (get_or o i 0) 0 ≤ most.most_arms
+  arms_room : Orderly g.a.count o → (i : ℕ) → i < length o → arms_to g.a.count o i + get_or g.a.count (get_or o i 0) 0 ≤ most.most_arms
   unfolding arms_to
   arms_room r i h =
       let e : suc i + (length o - suc i) ≡ length o = omega (arith, h) in
-      omega (arith, subst (λ (n : ℕ). arms_to a₀.count o (suc i) ≤ arms_to a₀.count o n) e (arms_to_le (suc i) (length o - suc i)), r.total)
+      omega (arith, subst (λ (n : ℕ). arms_to g.a.count o (suc i) ≤ arms_to g.a.count o n) e (arms_to_le (suc i) (length o - suc i)), r.total)
 
-  module _ (b : Blocks) (a : Arms) (e : List ℕ) (p q k i : ℕ) (l : Laying b₀ a₀ o split b a e p q k i) (r : Orderly a₀.count o) (h : i < length o)
-      (n : ℕ) (ne : get_or o i 0 ≡ n) (c : ℕ) (ce : c ≡ get_or a₀.count n 0) where
+  module _ (l : Laid) (i : ℕ) (y : Laying g o split l i) (r : Orderly g.a.count o) (h : i < length o) (n : ℕ) (ne : get_or o i 0 ≡ n) where
+    abbrev c : ℕ
+    c = get_or g.a.count n 0
+
     abbrev new : ℕ
-    new = most.numbers + k
+    new = most.numbers + l.bridges
 
-    -- what there is room for
-    pub n_low : n < most.numbers
-    n_low = omega (arith, ne, r.low i h)
+    room_arms : arms_to g.a.count o i + c ≤ most.most_arms
+    room_arms = omega (arith, ap (λ (m : ℕ). get_or g.a.count m 0) ne, arms_room r i h)
 
-    pub room_arms : arms_to a₀.count o i + c ≤ most.most_arms
-    room_arms = omega (arith, ce, ap (λ (m : ℕ). get_or a₀.count m 0) ne, arms_room r i h)
+    pub room : Room l (get_or g.a.count n 0) n
+    room = record {
+      n_low = omega (arith, ne, r.low i h);
+      new_low = omega (arith, y.few, r.few, h);
+      place = omega (arith, y.p_is, y.few, r.few, h);
+      arm = omega (arith, y.q_is, room_arms, y.few, r.few, h);
+    }
 
-    pub room_new : new < most.blocks
-    room_new = omega (arith, l.few, r.few, h)
+    -- a bridge takes one of the block's arms
+    pub bridge_within : (v : Leaving) → leave_at (at g) o split i ≡ v → BridgeWithin (get_or g.a.count n 0) v
+    unfolding leave_at block_at
+    bridge_within v ve =
+        subst (BridgeWithin c) ve
+        (subst (λ (x : ℕ). BridgeWithin x (leave_at (at g) o split i)) (leaves_count g.a (get_or o i 0) ∙ ap (λ (m : ℕ). get_or g.a.count m 0) ne) (edges_within _ _ (leaves g.a (get_or o i 0))))
 
-    pub room_place : suc p < most.blocks
-    room_place = omega (arith, l.p_is, l.few, r.few, h)
+    -- a is what leaving the block makes of the arms
+    module _ (v : Leaving) (ve : leave_at (at g) o split i ≡ v) (a : Arms) (le : Left g.a n v (most.numbers + l.bridges) l.graph.a l.graph.arms a) where
+      abbrev digit : ℕ
+      digit = exit_of (get_or g.b.ends n 0) v
 
-    pub room_arm : q + c < most.arms
-    room_arm = omega (arith, l.q_is, room_arms, l.few, r.few, h)
+      -- the block is laid
+      abbrev pub l₁ : Laid
+      l₁ = added l n c digit l.graph.b.marks l.graph.b.ends l.graph.b.weight a.to a.args a.weight
 
-    module _ (v : Leaving) (ve : leave_at (at b₀ a₀) o split i ≡ v) (digit : ℕ) (de : digit ≡ exit_of (get_or b₀.ends n 0) v)
-        (to args heft : List ℕ) (left : arms_from (only_arms to args heft) q c ≡ arms_left new (leaves a₀ n) v) (below : Below q (only_arms to args heft) a)
-        (to_sized : length to ≡ most.arms) (args_sized : length args ≡ most.arms) (heft_sized : length heft ≡ most.arms) where
-      only : Only b a e p q n c digit b.marks b.ends b.weight to args heft
+      only : Only l n c digit l.graph.b.marks l.graph.b.ends l.graph.b.weight a.to a.args a.weight
       unfolding arm_at
-      only = record {
-        same_marks = λ y f. refl;
-        same_ends = λ y f. refl;
-        same_weight = λ y f. refl;
-        marks_sized = l.placed.blocks_sized.marks;
-        ends_sized = l.placed.blocks_sized.ends;
-        weight_sized = l.placed.blocks_sized.weight;
-        same_arms = below;
-        to_sized = to_sized;
-        args_sized = args_sized;
-        heft_sized = heft_sized;
-      }
+      only = record { same_marks = λ x f. refl; same_ends = λ x f. refl; same_weight = λ x f. refl; same_arms = le.below }
 
-      abbrev b₁ : Blocks
-      b₁ = new_blocks b a e p q n c digit b.marks b.ends b.weight to args heft
-
-      abbrev a₁ : Arms
-      a₁ = new_arms b a e p q n c digit b.marks b.ends b.weight to args heft
-
-      abbrev e₁ : List ℕ
-      e₁ = new_exits b a e p q n c digit b.marks b.ends b.weight to args heft
-
-      fresh : get_or b.place n 0 ≡ 0
-      fresh = ap (λ (m : ℕ). get_or b.place m 0) (sym ne) ∙ l.unlaid i (omega arith) h
+      fresh : get_or l.graph.b.place n 0 ≡ 0
+      fresh = ap (λ (m : ℕ). get_or l.graph.b.place m 0) (sym ne) ∙ y.unlaid i (omega arith) h
 
       roomy : n < most.blocks
-      roomy = omega (arith, n_low)
+      roomy = omega (arith, room.n_low)
 
-      more : p < most.blocks
-      more = omega (arith, room_place)
+      more : l.graph.blocks < most.blocks
+      more = omega (arith, room.place)
 
-      laid_block_lem : new_place b a e p q n c digit b.marks b.ends b.weight to args heft l.placed only fresh roomy more ≡ laid_block new (at b₀ a₀ n) v
+      arms_same : (b d : Arms) → b.to ≡ d.to → b.args ≡ d.args → b.weight ≡ d.weight → (k f : ℕ) → arms_from b f k ≡ arms_from d f k
+      unfolding arm_at
+      arms_same b d t x w k f = arms_kept b d (f + k) (λ z _. rw (t, x, w)) k f (omega arith)
+
+      laid_block_is : new_place l n c digit l.graph.b.marks l.graph.b.ends l.graph.b.weight a.to a.args a.weight y.sized y.placed only fresh roomy more ≡ laid_block new (at g n) v
       unfolding laid_block with_arms block_at
-      laid_block_lem = rw (lt-leb most.numbers n n_low, l.marks n n_low, l.ends n n_low, l.weight n n_low, arms_only (set a.first n q) (set a.count n c) to args heft c q, left, de)
+      laid_block_is =
+          rw (
+            lt-leb most.numbers n room.n_low,
+            y.marks n room.n_low,
+            y.ends n room.n_low,
+            y.weight n room.n_low,
+            arms_same (record { first = set l.graph.a.first n l.graph.arms; count = set l.graph.a.count n c; to = a.to; args = a.args; weight = a.weight }) a refl refl refl c l.graph.arms,
+            le.left,
+          )
 
-      pub block_placed : Placed b₁ a₁ e₁ (suc p) (q + c)
-      block_placed = placed_more b a e p q n c digit b.marks b.ends b.weight to args heft l.placed only fresh roomy more
+      block_placed : Placed l₁
+      block_placed = placed_more l n c digit l.graph.b.marks l.graph.b.ends l.graph.b.weight a.to a.args a.weight y.sized y.placed only fresh roomy more
 
-      block_places : places_to b₁ a₁ e₁ (suc p) ≡ laid_to (at b₀ a₀) o split i ++ (laid_block new (at b₀ a₀ n) v ∷ [])
+      block_sized : Sized l₁
+      block_sized = sized_more l n c digit l.graph.b.marks l.graph.b.ends l.graph.b.weight a.to a.args a.weight y.sized y.placed only fresh roomy more y.sized.blocks.marks y.sized.blocks.ends y.sized.blocks.weight le.sized.to le.sized.args le.sized.weight
+
+      block_places : places_of l₁ ≡ laid_to (at g) o split i ++ (laid_block new (at g n) v ∷ [])
       block_places =
-          places_more b a e p q n c digit b.marks b.ends b.weight to args heft l.placed only fresh roomy more
-          ∙ ap (λ (x : Place). places_to b a e p ++ (x ∷ [])) laid_block_lem ∙ ap (λ (x : List Place). x ++ (laid_block new (at b₀ a₀ n) v ∷ [])) l.places
+          places_more l n c digit l.graph.b.marks l.graph.b.ends l.graph.b.weight a.to a.args a.weight y.sized y.placed only fresh roomy more
+          ∙ ap (λ (x : Place). places_of l ++ (x ∷ [])) laid_block_is ∙ ap (λ (x : List Place). x ++ (laid_block new (at g n) v ∷ [])) y.places
 
-      -- the number of arms of the block, and what leaving it gives
-      arms_few : c ≤ most.arms
-      arms_few = omega (arith, room_arms)
-
-      next_new : (u : Leaving) → v ≡ u → new_to (at b₀ a₀) o split (suc i) ≡ new_after new u
+      next_new : (u : Leaving) → v ≡ u → new_to (at g) o split (suc i) ≡ new_after new u
       unfolding new_to
-      next_new u z = ap (λ (w : Leaving). new_after (new_to (at b₀ a₀) o split i) w) (ve ∙ z) ∙ ap (λ (x : ℕ). new_after x u) l.new_is
+      next_new u z = ap (λ (w : Leaving). new_after (new_to (at g) o split i) w) (ve ∙ z) ∙ ap (λ (x : ℕ). new_after x u) y.new_is
 
-      next_places : laid_to (at b₀ a₀) o split (suc i) ≡ laid_to (at b₀ a₀) o split i ++ (laid_block new (at b₀ a₀ n) v ∷ bridge_of new (leb split i) (at b₀ a₀ n) v)
+      next_places : laid_to (at g) o split (suc i) ≡ laid_to (at g) o split i ++ (laid_block new (at g n) v ∷ bridge_of new (cold_at split i) (at g n) v)
       unfolding laid_to laid_at
       next_places =
-          ap (λ (x : ℕ). laid_to (at b₀ a₀) o split i ++ (laid_block x (at b₀ a₀ (get_or o i 0)) (leave_at (at b₀ a₀) o split i) ∷ bridge_of x (leb split i) (at b₀ a₀ (get_or o i 0)) (leave_at (at b₀ a₀) o split i))) l.new_is
-          ∙ ap (λ (x : ℕ). laid_to (at b₀ a₀) o split i ++ (laid_block new (at b₀ a₀ x) (leave_at (at b₀ a₀) o split i) ∷ bridge_of new (leb split i) (at b₀ a₀ x) (leave_at (at b₀ a₀) o split i))) ne
-          ∙ ap (λ (x : Leaving). laid_to (at b₀ a₀) o split i ++ (laid_block new (at b₀ a₀ n) x ∷ bridge_of new (leb split i) (at b₀ a₀ n) x)) ve
+          ap (λ (x : ℕ). laid_to (at g) o split i ++ (laid_block x (at g (get_or o i 0)) (leave_at (at g) o split i) ∷ bridge_of x (cold_at split i) (at g (get_or o i 0)) (leave_at (at g) o split i))) y.new_is
+          ∙ ap (λ (x : ℕ). laid_to (at g) o split i ++ (laid_block new (at g x) (leave_at (at g) o split i) ∷ bridge_of new (cold_at split i) (at g x) (leave_at (at g) o split i))) ne
+          ∙ ap (λ (x : Leaving). laid_to (at g) o split i ++ (laid_block new (at g n) x ∷ bridge_of new (cold_at split i) (at g n) x)) ve
 
-      still_unlaid : (j : ℕ) → i + 1 ≤ j → j < length o → get_or b₁.place (get_or o j 0) 0 ≡ 0
-      still_unlaid j x y = get_or-set_other b.place n (get_or o j 0) (p + 1) 0 (λ z. omega (arith, x, r.once j i y h (z ∙ sym ne))) ∙ l.unlaid j (omega (arith, x)) y
+      still_unlaid : (j : ℕ) → i + 1 ≤ j → j < length o → get_or (set l.graph.b.place n (l.graph.blocks + 1)) (get_or o j 0) 0 ≡ 0
+      still_unlaid j x z = get_or-set_other l.graph.b.place n (get_or o j 0) (l.graph.blocks + 1) 0 (λ w. omega (arith, x, r.once j i z h (w ∙ sym ne))) ∙ y.unlaid j (omega (arith, x)) z
 
-      still_spare : (m : ℕ) → new ≤ m → get_or b₁.place m 0 ≡ 0
-      still_spare m x = get_or-set_other b.place n m (p + 1) 0 (λ z. omega (arith, x, z, n_low)) ∙ l.spare m x
+      still_spare : (m : ℕ) → new ≤ m → get_or (set l.graph.b.place n (l.graph.blocks + 1)) m 0 ≡ 0
+      still_spare m x = get_or-set_other l.graph.b.place n m (l.graph.blocks + 1) 0 (λ z. omega (arith, x, z, room.n_low)) ∙ y.spare m x
 
-      v_below : Within2 c v
-      unfolding leave_at block_at
-      v_below =
-          subst (Within2 c) ve
-          (subst (λ (x : ℕ). Within2 x (leave_at (at b₀ a₀) o split i)) (leaves_count a₀ (get_or o i 0) ∙ ap (λ (m : ℕ). get_or a₀.count m 0) ne ∙ sym ce) (bridge_below _ _ (leaves a₀ (get_or o i 0))))
-
-      -- THE STEP without a bridge
-      pub plain_turn : bridge_arm v ≡ most.arms → Laying b₀ a₀ o split b₁ a₁ e₁ (p + 1) (q + c) k (i + 1)
-      unfolding arms_to
+      plain_turn : Bridgeless v → Laying g o split l₁ (i + 1)
+      unfolding arms_to with_place
       plain_turn z =
-          let w = bridge_none v c new (leb split i) (at b₀ a₀ n) v_below arms_few z in
-          let pe : suc p ≡ p + 1 = omega arith in
+          let w = bridge_none v new (cold_at split i) (at g n) z in
           let ie : suc i ≡ i + 1 = omega arith in
           record {
-            placed = subst (λ (x : ℕ). Placed b₁ a₁ e₁ x (q + c)) pe block_placed;
-            places = subst (λ (x : ℕ). places_to b₁ a₁ e₁ x ≡ laid_to (at b₀ a₀) o split (i + 1)) pe
-                (block_places ∙ sym (subst (λ (x : ℕ). laid_to (at b₀ a₀) o split x ≡ laid_to (at b₀ a₀) o split i ++ (laid_block new (at b₀ a₀ n) v ∷ [])) ie
-                (next_places ∙ ap (λ (x : List Place). laid_to (at b₀ a₀) o split i ++ (laid_block new (at b₀ a₀ n) v ∷ x)) w.0)));
-            p_is = omega (arith, l.p_is);
-            few = omega (arith, l.few);
-            within = omega (arith, h);
-            new_is = subst (λ (x : ℕ). new_to (at b₀ a₀) o split x ≡ new) ie (next_new v refl ∙ w.1);
-            q_is = subst (λ (x : ℕ). q + c ≡ arms_to a₀.count o x + k) ie (omega (arith, l.q_is, ce, ap (λ (m : ℕ). get_or a₀.count m 0) ne));
+            sized = block_sized;
+            placed = block_placed;
+            places = block_places ∙ sym (subst (λ (x : ℕ). laid_to (at g) o split x ≡ laid_to (at g) o split i ++ (laid_block new (at g n) v ∷ [])) ie
+                (next_places ∙ ap (λ (x : List Place). laid_to (at g) o split i ++ (laid_block new (at g n) v ∷ x)) w.0));
+            p_is = omega (arith, y.p_is);
+            few = omega (arith, y.few);
+            new_is = subst (λ (x : ℕ). new_to (at g) o split x ≡ new) ie (next_new v refl ∙ w.1);
+            q_is = subst (λ (x : ℕ). l.graph.arms + c ≡ arms_to g.a.count o x + l.bridges) ie (omega (arith, y.q_is, ap (λ (m : ℕ). get_or g.a.count m 0) ne));
             unlaid = still_unlaid;
             spare = still_spare;
-            marks = l.marks;
-            ends = l.ends;
-            weight = l.weight;
+            marks = y.marks;
+            ends = y.ends;
+            weight = y.weight;
           }
 
-      module _ (z : bridge_arm v ≡ most.arms → ⊥) where
+      module _ (j : ℕ) (z : v ≡ Bridge j) where
         abbrev x : ℕ
-        x = get_or a₀.first n 0 + bridge_arm v
+        x = get_or g.a.first n 0 + j
 
         abbrev cold : Bool
-        cold = leb split i
+        cold = cold_at split i
 
         abbrev q₁ : ℕ
-        q₁ = q + c
+        q₁ = l.graph.arms + c
 
         abbrev marks₂ : List ℕ
-        marks₂ = set b.marks new (cond cold 2 0)
+        marks₂ = set l.graph.b.marks new (cond cold 2 0)
 
         abbrev ends₂ : List ℕ
-        ends₂ = set b.ends new 0
+        ends₂ = set l.graph.b.ends new 0
 
         abbrev weight₂ : List ℕ
-        weight₂ = set b.weight new (get_or a₀.weight x 0)
+        weight₂ = set l.graph.b.weight new (get_or g.a.weight x 0)
 
         abbrev to₂ : List ℕ
-        to₂ = set to q₁ (get_or a₀.to x 0)
+        to₂ = set a.to q₁ (get_or g.a.to x 0)
 
         abbrev args₂ : List ℕ
-        args₂ = set args q₁ (get_or a₀.args x 0)
+        args₂ = set a.args q₁ (get_or g.a.args x 0)
 
         abbrev heft₂ : List ℕ
-        heft₂ = set heft q₁ (get_or a₀.weight x 0)
+        heft₂ = set a.weight q₁ (get_or g.a.weight x 0)
 
-        new_room : new < most.blocks
-        new_room = room_new
+        -- the bridge is laid
+        abbrev l₂ : Laid
+        l₂ = added l₁ new 1 1 marks₂ ends₂ weight₂ to₂ args₂ heft₂
 
-        more₂ : suc p < most.blocks
-        more₂ = room_place
-
-        q_room : q₁ < most.arms
-        q_room = room_arm
-
-        only₂ : Only b₁ a₁ e₁ (suc p) q₁ new 1 1 marks₂ ends₂ weight₂ to₂ args₂ heft₂
-        unfolding arm_at
+        only₂ : Only l₁ new 1 1 marks₂ ends₂ weight₂ to₂ args₂ heft₂
+        unfolding with_place with_arm
         only₂ = record {
-          same_marks = λ y f. get_or-set_other b.marks new y (cond cold 2 0) 0 f;
-          same_ends = λ y f. get_or-set_other b.ends new y 0 0 f;
-          same_weight = λ y f. get_or-set_other b.weight new y (get_or a₀.weight x 0) 0 f;
-          marks_sized = simp length-set l.placed.blocks_sized.marks;
-          ends_sized = simp length-set l.placed.blocks_sized.ends;
-          weight_sized = simp length-set l.placed.blocks_sized.weight;
-          same_arms = λ y f. put_other to args heft q₁ (get_or a₀.to x 0) (get_or a₀.args x 0) (get_or a₀.weight x 0) y (λ u. omega (arith, f, u));
-          to_sized = simp length-set to_sized;
-          args_sized = simp length-set args_sized;
-          heft_sized = simp length-set heft_sized;
+          same_marks = λ m f. get_or-set_other l.graph.b.marks new m (cond cold 2 0) 0 f;
+          same_ends = λ m f. get_or-set_other l.graph.b.ends new m 0 0 f;
+          same_weight = λ m f. get_or-set_other l.graph.b.weight new m (get_or g.a.weight x 0) 0 f;
+          same_arms = λ m f. put_other l₁.graph.a q₁ g.a x m (λ w. omega (arith, f, w));
         }
 
-        abbrev b₂ : Blocks
-        b₂ = new_blocks b₁ a₁ e₁ (suc p) q₁ new 1 1 marks₂ ends₂ weight₂ to₂ args₂ heft₂
+        fresh₂ : get_or l₁.graph.b.place new 0 ≡ 0
+        unfolding with_place
+        fresh₂ = still_spare new (omega arith)
 
-        abbrev a₂ : Arms
-        a₂ = new_arms b₁ a₁ e₁ (suc p) q₁ new 1 1 marks₂ ends₂ weight₂ to₂ args₂ heft₂
+        more₂ : l₁.graph.blocks < most.blocks
+        unfolding with_place
+        more₂ = omega (arith, room.place)
 
-        abbrev e₂ : List ℕ
-        e₂ = new_exits b₁ a₁ e₁ (suc p) q₁ new 1 1 marks₂ ends₂ weight₂ to₂ args₂ heft₂
+        arm_below : j < c
+        arm_below = bridge_within v ve j z
 
-        arm_below : bridge_arm v < c
-        arm_below = subst (Within2 c) (bridge_some v z) v_below
-
-        arm_is : get_or (leaves a₀ n) (bridge_arm v) no_arm ≡ arm_at a₀ x
+        arm_is : get_or (leaves g.a n) j no_arm ≡ arm_at g.a x
         unfolding leaves
-        arm_is = arms_get a₀ (get_or a₀.count n 0) (get_or a₀.first n 0) (bridge_arm v) (omega (arith, arm_below, ce))
+        arm_is = arms_get g.a c (get_or g.a.first n 0) j arm_below
 
-        taken : arm_at (put to args heft q₁ (get_or a₀.to x 0) (get_or a₀.args x 0) (get_or a₀.weight x 0)) q₁ ≡ get_or (leaves a₀ n) (bridge_arm v) no_arm
-        unfolding leaves arm_at
-        taken =
-            put_same to args heft q₁ (get_or a₀.to x 0) (get_or a₀.args x 0) (get_or a₀.weight x 0) (omega (arith, q_room, to_sized)) (omega (arith, q_room, args_sized)) (omega (arith, q_room, heft_sized))
-            ∙ sym arm_is
+        taken : arm_at (with_arm l₁.graph.a q₁ g.a x) q₁ ≡ get_or (leaves g.a n) j no_arm
+        taken = put_same l₁.graph.a q₁ g.a x block_sized.arms room.arm ∙ sym arm_is
 
-        laid_bridge : new_place b₁ a₁ e₁ (suc p) q₁ new 1 1 marks₂ ends₂ weight₂ to₂ args₂ heft₂ block_placed only₂ (still_spare new (omega arith)) new_room more₂ ≡ bridge_for new cold (get_or (leaves a₀ n) (bridge_arm v) no_arm)
-        unfolding bridge_for arms_from arm_at leaves
-        laid_bridge = rw (le-leb most.numbers new (omega arith), get_or-set_same b.marks new (cond cold 2 0) 0 (omega (arith, new_room, l.placed.blocks_sized.marks)), get_or-set_same b.ends new 0 0 (omega (arith, new_room, l.placed.blocks_sized.ends)), get_or-set_same b.weight new (get_or a₀.weight x 0) 0 (omega (arith, new_room, l.placed.blocks_sized.weight))) (
-            ap (λ (y : Arm). record { block = record { number = new; marks = cond cold 2 0; end = 0; weight = get_or a₀.weight x 0; arms = y ∷ [] }; is_bridge = true; exit = 1 }) taken
-            ∙ ap (λ (y : ℕ). record { block = record { number = new; marks = cond cold 2 0; end = 0; weight = y; arms = get_or (leaves a₀ n) (bridge_arm v) no_arm ∷ [] }; is_bridge = true; exit = 1 }) heavy)
-          where
-            heavy : get_or a₀.weight x 0 ≡ (get_or (leaves a₀ n) (bridge_arm v) no_arm).weight
-            heavy = ap (λ (y : Arm). y.weight) (sym arm_is)
+        laid_bridge : new_place l₁ new 1 1 marks₂ ends₂ weight₂ to₂ args₂ heft₂ block_sized block_placed only₂ fresh₂ room.new_low more₂ ≡ bridge_for new cold (get_or (leaves g.a n) j no_arm)
+        unfolding bridge_for arms_from arm_at with_place with_arm
+        laid_bridge =
+            rw (le-leb most.numbers new (omega arith), get_or-set_same l.graph.b.marks new (cond cold 2 0) 0 (omega (arith, room.new_low, y.sized.blocks.marks)), get_or-set_same l.graph.b.ends new 0 0 (omega (arith, room.new_low, y.sized.blocks.ends)), get_or-set_same l.graph.b.weight new (get_or g.a.weight x 0) 0 (omega (arith, room.new_low, y.sized.blocks.weight))) (
+            ap (λ (w : Arm). record { block = record { number = new; marks = cond cold 2 0; end = 0; weight = get_or g.a.weight x 0; arms = w ∷ [] }; is_bridge = true; exit = 1 }) taken
+            ∙ ap (λ (w : ℕ). record { block = record { number = new; marks = cond cold 2 0; end = 0; weight = w; arms = get_or (leaves g.a n) j no_arm ∷ [] }; is_bridge = true; exit = 1 }) (ap (λ (w : Arm). w.weight) (sym arm_is)))
 
-        bridge_is : bridge_of new cold (at b₀ a₀ n) v ≡ bridge_for new cold (get_or (leaves a₀ n) (bridge_arm v) no_arm) ∷ []
+        bridge_is : bridge_of new cold (at g n) v ≡ bridge_for new cold (get_or (leaves g.a n) j no_arm) ∷ []
         unfolding bridge_of block_at
-        bridge_is = ap (bridge_of new cold (at b₀ a₀ n)) (bridge_some v z)
+        bridge_is = ap (bridge_of new cold (at g n)) z
 
-        -- THE STEP with a bridge
-        pub bridge_turn : Laying b₀ a₀ o split b₂ a₂ e₂ (p + 1 + 1) (q + c + 1) (k + 1) (i + 1)
-        unfolding arms_to new_after
+        abbrev bf : Place
+        bf = bridge_for new cold (get_or (leaves g.a n) j no_arm)
+
+        bridge_places : places_of l₂ ≡ laid_to (at g) o split (suc i)
+        bridge_places =
+            places_more l₁ new 1 1 marks₂ ends₂ weight₂ to₂ args₂ heft₂ block_sized block_placed only₂ fresh₂ room.new_low more₂
+            ∙ ap (λ (w : Place). places_of l₁ ++ (w ∷ [])) laid_bridge ∙ ap (λ (w : List Place). w ++ (bf ∷ [])) block_places
+            ∙ append_assoc (laid_to (at g) o split i) (laid_block new (at g n) v ∷ []) (bf ∷ [])
+            ∙ sym (next_places ∙ ap (λ (w : List Place). laid_to (at g) o split i ++ (laid_block new (at g n) v ∷ w)) bridge_is)
+
+        bridge_turn : Laying g o split (with_bridge g.a (get_or g.a.first n 0 + j) (cold_at split i) l₁) (i + 1)
+        unfolding arms_to new_after with_place with_arm with_bridge
         bridge_turn =
-            let pe : suc (suc p) ≡ p + 1 + 1 = omega arith in
             let ie : suc i ≡ i + 1 = omega arith in
-            let pl = placed_more b₁ a₁ e₁ (suc p) q₁ new 1 1 marks₂ ends₂ weight₂ to₂ args₂ heft₂ block_placed only₂ (still_spare new (omega arith)) new_room more₂ in
-            let ps = places_more b₁ a₁ e₁ (suc p) q₁ new 1 1 marks₂ ends₂ weight₂ to₂ args₂ heft₂ block_placed only₂ (still_spare new (omega arith)) new_room more₂ in
-            let bf = bridge_for new cold (get_or (leaves a₀ n) (bridge_arm v) no_arm) in
+            let pl = placed_more l₁ new 1 1 marks₂ ends₂ weight₂ to₂ args₂ heft₂ block_sized block_placed only₂ fresh₂ room.new_low more₂ in
+            let sz = sized_more l₁ new 1 1 marks₂ ends₂ weight₂ to₂ args₂ heft₂ block_sized block_placed only₂ fresh₂ room.new_low more₂ (simp length-set y.sized.blocks.marks) (simp length-set y.sized.blocks.ends) (simp length-set y.sized.blocks.weight) (simp length-set le.sized.to) (simp length-set le.sized.args) (simp length-set le.sized.weight) in
             record {
-              placed = subst (λ (y : ℕ). Placed b₂ a₂ e₂ y (q + c + 1)) pe pl;
-              places = subst (λ (y : ℕ). places_to b₂ a₂ e₂ y ≡ laid_to (at b₀ a₀) o split (i + 1)) pe
-                  (ps ∙ ap (λ (y : Place). places_to b₁ a₁ e₁ (suc p) ++ (y ∷ [])) laid_bridge ∙ ap (λ (y : List Place). y ++ (bf ∷ [])) block_places
-                  ∙ append_assoc (laid_to (at b₀ a₀) o split i) (laid_block new (at b₀ a₀ n) v ∷ []) (bf ∷ [])
-                  ∙ sym (subst (λ (y : ℕ). laid_to (at b₀ a₀) o split y ≡ laid_to (at b₀ a₀) o split i ++ (laid_block new (at b₀ a₀ n) v ∷ bf ∷ [])) ie
-                  (next_places ∙ ap (λ (y : List Place). laid_to (at b₀ a₀) o split i ++ (laid_block new (at b₀ a₀ n) v ∷ y)) bridge_is)));
-              p_is = omega (arith, l.p_is);
-              few = omega (arith, l.few);
-              within = omega (arith, h);
-              new_is = subst (λ (y : ℕ). new_to (at b₀ a₀) o split y ≡ most.numbers + (k + 1)) ie (next_new (Bridge (bridge_arm v)) (bridge_some v z) ∙ omega arith);
-              q_is = subst (λ (y : ℕ). q + c + 1 ≡ arms_to a₀.count o y + (k + 1)) ie (omega (arith, l.q_is, ce, ap (λ (m : ℕ). get_or a₀.count m 0) ne));
-              unlaid = λ j s t. get_or-set_other b₁.place new (get_or o j 0) (suc p + 1) 0 (λ u. omega (arith, u, r.low j t)) ∙ still_unlaid j s t;
-              spare = λ m s. get_or-set_other b₁.place new m (suc p + 1) 0 (λ u. omega (arith, s, u)) ∙ still_spare m (omega (arith, s));
-              marks = λ m s. get_or-set_other b.marks new m (cond cold 2 0) 0 (λ u. omega (arith, s, u)) ∙ l.marks m s;
-              ends = λ m s. get_or-set_other b.ends new m 0 0 (λ u. omega (arith, s, u)) ∙ l.ends m s;
-              weight = λ m s. get_or-set_other b.weight new m (get_or a₀.weight x 0) 0 (λ u. omega (arith, s, u)) ∙ l.weight m s;
+              sized = record { blocks = sz.blocks; arms = sz.arms; exits = sz.exits };
+              placed = record { back = pl.back; within = pl.within };
+              places = bridge_places ∙ ap (laid_to (at g) o split) ie;
+              p_is = omega (arith, y.p_is);
+              few = omega (arith, y.few);
+              new_is = subst (λ (w : ℕ). new_to (at g) o split w ≡ most.numbers + (l.bridges + 1)) ie (next_new (Bridge j) z ∙ omega arith);
+              q_is = subst (λ (w : ℕ). l.graph.arms + c + 1 ≡ arms_to g.a.count o w + (l.bridges + 1)) ie (omega (arith, y.q_is, ap (λ (m : ℕ). get_or g.a.count m 0) ne));
+              unlaid = λ k u t. get_or-set_other l₁.graph.b.place new (get_or o k 0) (l.graph.blocks + 1 + 1) 0 (λ w. omega (arith, w, r.low k t)) ∙ still_unlaid k u t;
+              spare = λ m u. get_or-set_other l₁.graph.b.place new m (l.graph.blocks + 1 + 1) 0 (λ w. omega (arith, u, w)) ∙ still_spare m (omega (arith, u));
+              marks = λ m u. get_or-set_other l.graph.b.marks new m (cond cold 2 0) 0 (λ w. omega (arith, u, w)) ∙ y.marks m u;
+              ends = λ m u. get_or-set_other l.graph.b.ends new m 0 0 (λ w. omega (arith, u, w)) ∙ y.ends m u;
+              weight = λ m u. get_or-set_other l.graph.b.weight new m (get_or g.a.weight x 0) 0 (λ w. omega (arith, u, w)) ∙ y.weight m u;
             }
+
+      -- THE STEPS, without a bridge and with one
+      same : l₁ ≡ with_place (record l { graph = record l.graph { a = a } }) n c digit
+      same = rw (← le.first, ← le.count)
+
+      pub plain_step : Bridgeless v → Laying g o split (with_place (record l { graph = record l.graph { a = a } }) n (get_or g.a.count n 0) (exit_of (get_or g.b.ends n 0) v)) (i + 1)
+      plain_step z = subst (λ (x : Laid). Laying g o split x (i + 1)) same (plain_turn z)
+
+      pub bridge_step : (j : ℕ) → v ≡ Bridge j →
+          Laying g o split (with_bridge g.a (get_or g.a.first n 0 + j) (cold_at split i) (with_place (record l { graph = record l.graph { a = a } }) n (get_or g.a.count n 0) (exit_of (get_or g.b.ends n 0) v))) (i + 1)
+      bridge_step j z = subst (λ (x : Laid). Laying g o split (with_bridge g.a (get_or g.a.first n 0 + j) (cold_at split i) x) (i + 1)) same (bridge_turn j z)

@@ -1,14 +1,9 @@
 -- The arms that a block leaves, one by one. Assumes nothing.
-use Prim.Native.Nat.{ℕ, zero, suc, ◌+◌, ◌≤◌, ◌<◌}
-use native.Mathlib.Nat.{add-zero}
-use native.Mathlib.Omega.{arith}
-use mathlib.Core.Path.{◌≡◌, refl, sym, ap, ◌∙◌, subst}
-use mathlib.Core.Bool.{Bool, true, false, cond}
-use mathlib.Core.List.{List, [], ◌∷◌}
+use Rattle.std.proofs.Common.{ℕ, zero, suc, ◌+◌, ◌≤◌, ◌<◌, ◌≡◌, Bool, true, false, cond, List, [], ◌∷◌, length, get_or, refl, sym, ap, ◌∙◌, subst, arith, add-zero}
 use lib.Dec.{eqb, eqb-suc-suc}
-use lib.ListN.{length, get_or, set, length-set}
+use lib.ListN.{set, length-set}
 use lib.Seq.{get_or-set_same, get_or-set_other}
-use borrow.Author.Tests.{eqb-true, lt-ltb, le-ltb, ne_eqb}
+use borrow.Author.Tests.{eqb-true, eqb-false, lt-ltb, le-ltb, ne_eqb}
 use Rattle.limits.specs.Limits.{arms}
 use Rattle.lists.proofs.Choices.{split_lt}
 use Rattle.rules.specs.declared.Leaving.{Leaving}
@@ -16,32 +11,22 @@ use Rattle.rules.specs.declared.Leaving.TheVariants.{Nothing, Jump, Branch, Exch
 use Rattle.rules.specs.Graph.{Arm}
 use Rattle.rules.specs.Exits.{no_arm, set_arm, swapped, arms_left}
 use Rattle.records.specs.declared.Arms.{Arms}
-use Rattle.records.specs.Tables.{arm_at, arms_from, only_arms}
+use Rattle.records.specs.Tables.{arm_at, arms_from, leaves, ArmsSized}
 use Rattle.records.proofs.TableLaws.{arms_count}
-use Rattle.exits.specs.Lays.{source_of, bridged_at, Below}
+use Rattle.exits.specs.Lays.{source_of, Below, Left, with_arm}
+use Rattle.exits.proofs.Decisions.{Bridgeless}
 
 -- ---- one arm stored
-module _ (to args weight : List ℕ) (t x y z : ℕ) where
-  abbrev pub put : Arms
-  put = only_arms (set to t x) (set args t y) (set weight t z)
+module _ (a : Arms) (t : ℕ) (a₀ : Arms) (x : ℕ) where
+  pub put_same : ArmsSized a → t < arms → arm_at (with_arm a t a₀ x) t ≡ arm_at a₀ x
+  unfolding arm_at with_arm
+  put_same s h = rw (get_or-set_same a.to t (get_or a₀.to x 0) 0 (omega (arith, h, s.to)), get_or-set_same a.args t (get_or a₀.args x 0) 0 (omega (arith, h, s.args)), get_or-set_same a.weight t (get_or a₀.weight x 0) 0 (omega (arith, h, s.weight)))
 
-  pub put_same : t < length to → t < length args → t < length weight → arm_at put t ≡ record { to = x; args = y; weight = z }
-  unfolding arm_at
-  put_same a b c = rw (get_or-set_same to t x 0 a, get_or-set_same args t y 0 b, get_or-set_same weight t z 0 c)
+  pub put_other : (k : ℕ) → (k ≡ t → ⊥) → arm_at (with_arm a t a₀ x) k ≡ arm_at a k
+  unfolding arm_at with_arm
+  put_other k f = rw (get_or-set_other a.to t k (get_or a₀.to x 0) 0 f, get_or-set_other a.args t k (get_or a₀.args x 0) 0 f, get_or-set_other a.weight t k (get_or a₀.weight x 0) 0 f)
 
-  pub put_other : (k : ℕ) → (k ≡ t → ⊥) → arm_at put k ≡ arm_at (only_arms to args weight) k
-  unfolding arm_at
-  put_other k f = rw (get_or-set_other to t k x 0 f, get_or-set_other args t k y 0 f, get_or-set_other weight t k z 0 f)
-
--- ---- the arm that is written at j
-unfoldable pub left_arm : Arms → ℕ → ℕ → Leaving → ℕ → ℕ → Arm
-left_arm a f c how new j =
-    record {
-      to = cond (bridged_at how j) new (get_or a.to (f + source_of how c j) 0);
-      args = cond (bridged_at how j) 0 (get_or a.args (f + source_of how c j) 0);
-      weight = get_or a.weight (f + source_of how c j) 0;
-    }
-
+-- ---- the arm that stands at j
 pub source_below : (how : Leaving) (c j : ℕ) → j < c → source_of how c j < c
 unfolding source_of
 source_below Nothing c j h = h
@@ -112,66 +97,94 @@ left_length new l Exchanged = swapped_length l
 left_length new l (Bridge i) = set_length i _ l
 
 module _ (a : Arms) (f c new : ℕ) where
-  left_get : (how : Leaving) (j : ℕ) → j < c → left_arm a f c how new j ≡ get_or (arms_left new (arms_from a f c) how) j no_arm
-  unfolding left_arm arms_left bridged_at source_of arm_at
-  left_get Nothing j h = sym (arms_get a c f j h)
-  left_get Jump j h = sym (arms_get a c f j h)
-  left_get Branch j h = sym (arms_get a c f j h)
-  left_get Exchanged j h =
-      sym (arms_get a c f (source_of Exchanged c j) (source_below Exchanged c j h))
-      ∙ sym (swapped_get (arms_from a f c) j ∙ ap (λ (k : ℕ). get_or (arms_from a f c) (source_of Exchanged k j) no_arm) (arms_count a f c))
-  left_get (Bridge i) j h =
-      go (eqb i j) refl ∙ sym (set_get i (record { to = new; args = 0; weight = (get_or (arms_from a f c) i no_arm).weight }) (arms_from a f c) j (omega (arith, h, arms_count a f c)))
-    where
-      go : (t : Bool) → eqb i j ≡ t →
-          ◌≡◌ {A = Arm} (record { to = cond t new (get_or a.to (f + j) 0); args = cond t 0 (get_or a.args (f + j) 0); weight = get_or a.weight (f + j) 0 })
-          (cond t (record { to = new; args = 0; weight = (get_or (arms_from a f c) i no_arm).weight }) (get_or (arms_from a f c) j no_arm))
-      go true e =
-          let k : i ≡ j = eqb-true i j e in
-          ap (λ (w : ℕ). record { to = new; args = 0; weight = w }) (ap (λ (x : Arm). x.weight) (sym (arms_get a c f j h) ∙ ap (λ (n : ℕ). get_or (arms_from a f c) n no_arm) (sym k)))
-      go false e = sym (arms_get a c f j h)
-
-  -- THE LAW
-  pub left_all : (how : Leaving) (b : Arms) (q : ℕ) → ((j : ℕ) → j < c → arm_at b (q + j) ≡ left_arm a f c how new j) → arms_from b q c ≡ arms_left new (arms_from a f c) how
-  left_all how b q h =
-      let e : length (arms_left new (arms_from a f c) how) ≡ c = left_length new (arms_from a f c) how ∙ arms_count a f c in
-      subst (λ (k : ℕ). arms_from b q k ≡ arms_left new (arms_from a f c) how) e
-      (arms_each b q (arms_left new (arms_from a f c) how) (λ j k. let l : j < c = omega (arith, e, k) in h j l ∙ left_get how j l))
+  plain_get : (how : Leaving) (j : ℕ) → Bridgeless how → j < c → get_or (arms_left new (arms_from a f c) how) j no_arm ≡ arm_at a (f + source_of how c j)
+  unfolding arms_left source_of
+  plain_get Nothing j e h = arms_get a c f j h
+  plain_get Jump j e h = arms_get a c f j h
+  plain_get Branch j e h = arms_get a c f j h
+  plain_get Exchanged j e h =
+      swapped_get (arms_from a f c) j ∙ ap (λ (k : ℕ). get_or (arms_from a f c) (source_of Exchanged k j) no_arm) (arms_count a f c)
+      ∙ arms_get a c f (source_of Exchanged c j) (source_below Exchanged c j h)
+  plain_get (Bridge i) j e h = absurd (e i refl)
 
 -- ---- the arms written so far, j of them
-pub record Leaves (a : Arms) (f c : ℕ) (how : Leaving) (new : ℕ) (b₀ : Arms) (q : ℕ) (b : Arms) (j : ℕ) : Type 0 where
-  pub within : j ≤ c
-  pub to : length b.to ≡ arms
-  pub args : length b.args ≡ arms
-  pub weight : length b.weight ≡ arms
+pub record Leaves (a : Arms) (f c : ℕ) (how : Leaving) (b₀ : Arms) (q : ℕ) (b : Arms) (j : ℕ) : Type 0 where
+  pub sized : ArmsSized b
+  pub first : b.first ≡ b₀.first
+  pub count : b.count ≡ b₀.count
   pub kept : Below q b b₀
-  pub done : (x : ℕ) → x < j → arm_at b (q + x) ≡ left_arm a f c how new x
+  pub done : (x : ℕ) → x < j → arm_at b (q + x) ≡ arm_at a (f + source_of how c x)
 
-module _ (a : Arms) (f c : ℕ) (how : Leaving) (new : ℕ) (b₀ : Arms) (q : ℕ) where
-  pub leaves_start : length b₀.to ≡ arms → length b₀.args ≡ arms → length b₀.weight ≡ arms → Leaves a f c how new b₀ q b₀ 0
-  leaves_start x y z = record { within = omega arith; to = x; args = y; weight = z; kept = λ k h. refl; done = λ k h. absurd (omega (arith, h)) }
+pub leaves_turn : {a : Arms} {f c : ℕ} {how : Leaving} {b₀ : Arms} {q : ℕ} {b : Arms} {j : ℕ} → Leaves a f c how b₀ q b j → q + j < arms → Leaves a f c how b₀ q (with_arm b (q + j) a (f + source_of how c j)) (j + 1)
+unfolding with_arm
+leaves_turn {a} {f} {c} {how} {b₀} {q} {b} {j} l h =
+    let y = f + source_of how c j in
+    record {
+      sized = record { first = l.sized.first; count = l.sized.count; to = simp length-set l.sized.to; args = simp length-set l.sized.args; weight = simp length-set l.sized.weight };
+      first = l.first;
+      count = l.count;
+      kept = λ x r. put_other b (q + j) a y x (λ e. omega (arith, r, e)) ∙ l.kept x r;
+      done = λ x r. split_lt x j
+          (λ w. put_other b (q + j) a y (q + x) (λ e. omega (arith, w, e)) ∙ l.done x w)
+          (λ w. let e : x ≡ j = omega (arith, r, w) in
+          subst (λ (n : ℕ). arm_at (with_arm b (q + j) a y) (q + n) ≡ arm_at a (f + source_of how c n)) (sym e) (put_same b (q + j) a y l.sized h));
+    }
 
-  pub leaves_turn : (to args weight : List ℕ) (j : ℕ) → Leaves a f c how new b₀ q (only_arms to args weight) j → j < c → q + c ≤ arms →
-      Leaves a f c how new b₀ q
-      (put to args weight (q + j) (cond (bridged_at how j) new (get_or a.to (f + source_of how c j) 0)) (cond (bridged_at how j) 0 (get_or a.args (f + source_of how c j) 0)) (get_or a.weight (f + source_of how c j) 0))
-      (j + 1)
-  unfolding left_arm
-  leaves_turn to args weight j l h k =
-      let v = cond (bridged_at how j) new (get_or a.to (f + source_of how c j) 0) in
-      let y = cond (bridged_at how j) 0 (get_or a.args (f + source_of how c j) 0) in
-      let z = get_or a.weight (f + source_of how c j) 0 in
-      record {
-        within = omega (arith, h);
-        to = simp length-set l.to;
-        args = simp length-set l.args;
-        weight = simp length-set l.weight;
-        kept = λ x r. put_other to args weight (q + j) v y z x (λ e. omega (arith, r, e)) ∙ l.kept x r;
-        done = λ x r. split_lt x j
-            (λ w. put_other to args weight (q + j) v y z (q + x) (λ e. omega (arith, w, e)) ∙ l.done x w)
-            (λ w. let e : x ≡ j = omega (arith, r, w) in
-            subst (λ (n : ℕ). arm_at (put to args weight (q + j) v y z) (q + n) ≡ left_arm a f c how new n) (sym e)
-            (put_same to args weight (q + j) v y z (omega (arith, l.to, h, k)) (omega (arith, l.args, h, k)) (omega (arith, l.weight, h, k))));
-      }
+module _ {a : Arms} {f c : ℕ} {how : Leaving} {b₀ : Arms} {q : ℕ} {b : Arms} {j : ℕ} (l : Leaves a f c how b₀ q b j) (n new : ℕ) (fe : f ≡ get_or a.first n 0) (ce : c ≡ get_or a.count n 0) (all : j ≡ c) where
+  -- the block's arms by what stands at each place
+  each : (d : Arms) (v : Leaving) → ((x : ℕ) → x < c → arm_at d (q + x) ≡ get_or (arms_left new (arms_from a f c) v) x no_arm) → arms_from d q (get_or a.count n 0) ≡ arms_left new (leaves a n) v
+  unfolding leaves
+  each d v h =
+      let e : length (arms_left new (arms_from a f c) v) ≡ c = left_length new (arms_from a f c) v ∙ arms_count a f c in
+      rw (← fe, ← ce) (
+      subst (λ (k : ℕ). arms_from d q k ≡ arms_left new (arms_from a f c) v) e
+      (arms_each d q (arms_left new (arms_from a f c) v) (λ x k. h x (omega (arith, e, k)))))
 
-  pub leaves_end : (b : Arms) (j : ℕ) → Leaves a f c how new b₀ q b j → c ≤ j → arms_from b q c ≡ arms_left new (arms_from a f c) how
-  leaves_end b j l h = left_all a f c new how b q (λ x k. l.done x (omega (arith, h, k)))
+  -- THE LAW, where no arm goes to a bridge
+  pub left_plain : Bridgeless how → Left a n how new b₀ q b
+  left_plain e = record {
+    sized = l.sized;
+    first = l.first;
+    count = l.count;
+    below = l.kept;
+    left = each b how (λ x k. l.done x (omega (arith, k, all)) ∙ sym (plain_get a f c new how x e k));
+  }
+
+  -- and where arm i does
+  module _ (i : ℕ) (v : how ≡ Bridge i) (h : i < c) (room : q + c ≤ arms) where
+    done : (x : ℕ) → x < c → arm_at b (q + x) ≡ arm_at a (f + x)
+    unfolding source_of
+    done x k = l.done x (omega (arith, k, all)) ∙ ap (λ (w : Leaving). arm_at a (f + source_of w c x)) v
+
+    abbrev bridged : Arms
+    bridged = record b { to = set b.to (q + i) new; args = set b.args (q + i) 0 }
+
+    abbrev plain_arm : Arm
+    plain_arm = record { to = new; args = 0; weight = (get_or (arms_from a f c) i no_arm).weight }
+
+    bridged_other : (x : ℕ) → (x ≡ q + i → ⊥) → arm_at bridged x ≡ arm_at b x
+    unfolding arm_at
+    bridged_other x z = rw (get_or-set_other b.to (q + i) x new 0 z, get_or-set_other b.args (q + i) x 0 0 z)
+
+    bridged_same : arm_at bridged (q + i) ≡ plain_arm
+    unfolding arm_at
+    bridged_same =
+        rw (get_or-set_same b.to (q + i) new 0 (omega (arith, h, room, l.sized.to)), get_or-set_same b.args (q + i) 0 0 (omega (arith, h, room, l.sized.args)))
+        (ap (λ (w : ℕ). record { to = new; args = 0; weight = w }) (ap (λ (x : Arm). x.weight) (done i h ∙ sym (arms_get a c f i h))))
+
+    bridged_get : (x : ℕ) → x < c → arm_at bridged (q + x) ≡ get_or (arms_left new (arms_from a f c) (Bridge i)) x no_arm
+    unfolding arms_left
+    bridged_get x k = go (eqb i x) refl ∙ sym (set_get i plain_arm (arms_from a f c) x (omega (arith, k, arms_count a f c)))
+      where
+        go : (t : Bool) → eqb i x ≡ t → arm_at bridged (q + x) ≡ cond t plain_arm (get_or (arms_from a f c) x no_arm)
+        go true e = ap (λ (m : ℕ). arm_at bridged (q + m)) (sym (eqb-true i x e)) ∙ bridged_same
+        go false e = bridged_other (q + x) (λ z. eqb-false i x e (omega (arith, z))) ∙ done x k ∙ sym (arms_get a c f x k)
+
+    pub left_bridged : Left a n how new b₀ q (record b { to = set b.to (q + i) new; args = set b.args (q + i) 0 })
+    left_bridged = record {
+      sized = record { first = l.sized.first; count = l.sized.count; to = simp length-set l.sized.to; args = simp length-set l.sized.args; weight = l.sized.weight };
+      first = l.first;
+      count = l.count;
+      below = λ x k. bridged_other x (λ z. omega (arith, k, z)) ∙ l.kept x k;
+      left = rw v (each bridged (Bridge i) bridged_get);
+    }

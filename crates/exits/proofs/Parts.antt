@@ -1,32 +1,24 @@
 -- What is laid block by block is what the rule lays part by part. Assumes nothing.
-use Prim.Native.Nat.{ℕ, zero, suc, ◌+◌, ◌-◌, ◌≤◌, ◌<◌}
-use native.Mathlib.Nat.{add-zero}
-use native.Mathlib.Omega.{arith}
-use mathlib.Core.Path.{◌≡◌, refl, sym, ap, ◌∙◌}
-use mathlib.Core.Bool.{Bool, true, false, cond}
-use mathlib.Core.List.{List, [], ◌∷◌, ◌++◌, append_assoc, append-nil}
-use mathlib.Core.Option.{none}
-use lib.Dec.{eqb, leb, ltb}
-use lib.ListN.{length, get_or, take, drop, length-take, length-drop}
+use Rattle.std.proofs.Common.{ℕ, zero, suc, ◌+◌, ◌-◌, ◌≤◌, ◌<◌, ◌≡◌, Bool, true, false, cond, List, [], ◌∷◌, ◌++◌, length, get_or, take, drop, refl, sym, ap, ◌∙◌, arith, add-zero, append_assoc, append-nil, length-take, length-drop}
+use Rattle.std.specs.Prelude.{Option, None, Some}
 use lib.Seq.{drop-cons, take_all}
-use borrow.Author.Tests.{eqb-false, ltb-true, ltb-false, ne_eqb, lt-ltb, le-ltb, le-leb, lt-leb}
-use Rattle.limits.specs.Limits.{numbers, blocks}
+use borrow.Author.Tests.{eqb-false, ne_eqb, lt-ltb, le-ltb, le-leb, lt-leb}
+use Rattle.limits.specs.Limits.{numbers}
 use Rattle.rules.specs.declared.Leaving.{Leaving}
 use Rattle.rules.specs.declared.Leaving.TheVariants.{Nothing, Jump, Branch, Exchanged, Bridge}
 use Rattle.rules.specs.Graph as graph
+use Rattle.rules.specs.Graph.{names}
 use Rattle.rules.specs.Exits.{Place, edges, laid_block, bridge_for, bridge_of, new_after, next_in, lay_part, bridges}
-use Rattle.records.specs.Tables.{optional}
-use Rattle.records.proofs.StandLaws.{optional_some}
-use Rattle.exits.specs.Lays.{next_at, lay_at}
+use Rattle.exits.specs.Lays.{next_at, cold_at, lay_at}
 use Rattle.exits.proofs.Steps.{leave_at, new_to, laid_at, laid_to}
 
-module _ (at : ℕ → graph.Block) (g : graph.Graph) (o : List ℕ) (split : ℕ) where
+module _ (at : ℕ → graph.Block) (g : graph.Graph) (o : List ℕ) (split : Option ℕ) where
   -- l stands from place i on, is a part, and its blocks are those of g
   abbrev Part : Bool → ℕ → List ℕ → Type 0
   Part cold i [] = Unit
-  Part cold i (n ∷ l) = ((get_or o i 0 ≡ n) × (next_at o split i ≡ next_in l) × (leb split i ≡ cold) × (at n ≡ graph.block_at g n)) × Part cold (suc i) l
+  Part cold i (n ∷ l) = ((get_or o i 0 ≡ n) × (next_at o split i ≡ next_in l) × (cold_at split i ≡ cold) × (at n ≡ graph.block_at g n)) × Part cold (suc i) l
 
-  laid_more : (i n : ℕ) (cold : Bool) (l : List ℕ) → get_or o i 0 ≡ n → next_at o split i ≡ next_in l → leb split i ≡ cold → at n ≡ graph.block_at g n →
+  laid_more : (i n : ℕ) (cold : Bool) (l : List ℕ) → get_or o i 0 ≡ n → next_at o split i ≡ next_in l → cold_at split i ≡ cold → at n ≡ graph.block_at g n →
       (laid_at at o split i ≡ laid_block (new_to at o split i) (graph.block_at g n) (edges (next_in l) (graph.block_at g n).end (graph.block_at g n).arms)
       ∷ bridge_of (new_to at o split i) cold (graph.block_at g n) (edges (next_in l) (graph.block_at g n).end (graph.block_at g n).arms))
       × (leave_at at o split i ≡ edges (next_in l) (graph.block_at g n).end (graph.block_at g n).arms)
@@ -75,7 +67,7 @@ module _ (at : ℕ → graph.Block) (g : graph.Graph) (o : List ℕ) (split : �
   unfolding new_to laid_to laid_at bridges
   new_bridges zero = refl
   new_bridges (suc i) =
-      sym (bridges_at (new_to at o split i) (leb split i) (at (get_or o i 0)) (leave_at at o split i))
+      sym (bridges_at (new_to at o split i) (cold_at split i) (at (get_or o i 0)) (leave_at at o split i))
       ∙ omega (arith, new_bridges i, bridges_append (laid_to at o split i) (laid_at at o split i))
 
   nothing_laid : (l : List Place) → laid_to at o split 0 ++ l ≡ l
@@ -87,26 +79,24 @@ module _ (at : ℕ → graph.Block) (g : graph.Graph) (o : List ℕ) (split : �
   first_new = refl
 
   -- ---- the parts of the order
-  module _ (low : (i : ℕ) → i < length o → get_or o i 0 < blocks) (own : (i : ℕ) → i < length o → at (get_or o i 0) ≡ graph.block_at g (get_or o i 0)) where
-    next_end : (i e : ℕ) → suc i ≡ e → ((e ≡ split → ⊥) → e ≡ length o) → next_at o split i ≡ none
+  module _ (own : (i : ℕ) → i < length o → at (get_or o i 0) ≡ graph.block_at g (get_or o i 0)) where
+    next_end : (i e : ℕ) → suc i ≡ e → ((names split e ≡ false) → e ≡ length o) → next_at o split i ≡ None
     unfolding next_at
-    next_end i e q ee = go (eqb (suc i) split) refl
+    next_end i e q ee = go (names split (suc i)) refl
       where
-        go : (t : Bool) → eqb (suc i) split ≡ t → cond t none (cond (ltb (suc i) (length o)) (optional (get_or o (suc i) 0)) none) ≡ none
-        go true z = refl
-        go false z = rw (le-ltb (suc i) (length o) (omega (arith, q, ee (λ y. eqb-false (suc i) split z (q ∙ y)))))
+        go : (t : Bool) → names split (suc i) ≡ t → next_at o split i ≡ None
+        go true z = rw z
+        go false z = rw (z, le-ltb (suc i) (length o) (omega (arith, q, ee (ap (names split) (sym q) ∙ z))))
 
-    next_in_lem : (i e k : ℕ) → suc i < e → e ≤ length o → (suc i ≡ split → ⊥) → next_at o split i ≡ next_in (take (suc k) (drop (suc i) o))
+    next_in_lem : (i e k : ℕ) → suc i < e → e ≤ length o → names split (suc i) ≡ false → next_at o split i ≡ next_in (take (suc k) (drop (suc i) o))
     unfolding next_at next_in
-    next_in_lem i e k h el f =
-        rw (ne_eqb (suc i) split f, lt-ltb (suc i) (length o) (omega (arith, h, el)), drop-cons o (suc i) 0 (omega (arith, h, el)))
-        (optional_some (get_or o (suc i) 0) (low (suc i) (omega (arith, h, el))))
+    next_in_lem i e k h el f = rw (f, lt-ltb (suc i) (length o) (omega (arith, h, el)), drop-cons o (suc i) 0 (omega (arith, h, el)))
 
-    next_in_none : next_in [] ≡ none
+    next_in_none : next_in [] ≡ None
     unfolding next_in
     next_in_none = refl
 
-    part_is : (cold : Bool) (k i e : ℕ) → i + k ≡ e → e ≤ length o → ((e ≡ split → ⊥) → e ≡ length o) → ((x : ℕ) → i ≤ x → suc x < e → suc x ≡ split → ⊥) → ((x : ℕ) → i ≤ x → x < e → leb split x ≡ cold) →
+    part_is : (cold : Bool) (k i e : ℕ) → i + k ≡ e → e ≤ length o → (names split e ≡ false → e ≡ length o) → ((x : ℕ) → i ≤ x → suc x < e → names split (suc x) ≡ false) → ((x : ℕ) → i ≤ x → x < e → cold_at split x ≡ cold) →
         Part cold i (take k (drop i o))
     part_is cold zero i e ek el ee es ec = tt
     part_is cold (suc k) i e ek el ee es ec =
@@ -119,43 +109,32 @@ module _ (at : ℕ → graph.Block) (g : graph.Graph) (o : List ℕ) (split : �
         next zero q = next_end i e (omega (arith, q)) ee ∙ sym next_in_none
         next (suc k) q = next_in_lem i e k (omega (arith, q)) el (es i (omega arith) (omega (arith, q)))
 
-    -- THE LAW
-    pub laid_is : length o ≤ blocks → ((split < blocks) → split ≤ length o) → laid_to at o split (length o) ≡ lay_at g o split
-    unfolding lay_at
-    laid_is small inside = go (ltb split blocks) refl
-      where
-        start : (l : List Place) → laid_to at o split 0 ++ l ≡ l
-        start l = nothing_laid l
+-- one part that is not cold
+module _ (at : ℕ → graph.Block) (g : graph.Graph) (o : List ℕ) (split : Option ℕ) (own : (i : ℕ) → i < length o → at (get_or o i 0) ≡ graph.block_at g (get_or o i 0)) where
+  first_part : (e : ℕ) → e ≤ length o → (names split e ≡ false → e ≡ length o) → ((x : ℕ) → suc x < e → names split (suc x) ≡ false) → ((x : ℕ) → x < e → cold_at split x ≡ false) →
+      laid_to at o split e ≡ lay_part g false numbers (take e o)
+  first_part e el ee es ec =
+      ap (laid_to at o split) long ∙ part_laid at g o split false (take e (drop 0 o)) 0 (part_is at g o split own false e 0 e (omega arith) el ee (λ x _. es x) (λ x _. ec x))
+      ∙ nothing_laid at g o split (lay_part g false (new_to at o split 0) (take e (drop 0 o))) ∙ ap (λ (k : ℕ). lay_part g false k (take e o)) (first_new at g o split)
+    where
+      long : e ≡ 0 + length (take e (drop 0 o))
+      long = omega (arith, el, length-take e o)
 
-        go : (t : Bool) → ltb split blocks ≡ t → laid_to at o split (length o)
-            ≡ cond t (lay_part g false numbers (take split o) ++ lay_part g true (numbers + bridges (lay_part g false numbers (take split o))) (drop split o)) (lay_part g false numbers o)
-        go false z =
-            let h : blocks ≤ split = ltb-false split blocks z in
-            ap (laid_to at o split) whole ∙ part_laid false (take (length o) (drop 0 o)) 0
-            (part_is false (length o) 0 (length o) (omega arith) (omega arith) (λ _. refl) (λ x _ b c. omega (arith, b, c, h, small)) (λ x _ b. lt-leb split x (omega (arith, b, h, small))))
-            ∙ start (lay_part g false (new_to at o split 0) (take (length o) (drop 0 o)))
-            ∙ ap (lay_part g false (new_to at o split 0)) (take_all (length o) o (omega arith)) ∙ ap (λ (k : ℕ). lay_part g false k o) first_new
-          where
-            whole : length o ≡ 0 + length (take (length o) (drop 0 o))
-            whole = omega (arith, ap length (take_all (length o) o (omega arith)))
-        go true z =
-            let h : split < blocks = ltb-true split blocks z in
-            let w : laid_to at o split split ≡ lay_part g false numbers (take split o) = warm (inside h) in
-            ap (laid_to at o split) (cold_length (inside h))
-            ∙ part_laid true (take (length o - split) (drop split o)) split
-            (part_is true (length o - split) split (length o) (omega (arith, inside h)) (omega arith) (λ _. refl) (λ x a b c. omega (arith, a, c)) (λ x a b. le-leb split x a))
-            ∙ ap (λ (k : List ℕ). laid_to at o split split ++ lay_part g true (new_to at o split split) k) (take_all (length o - split) (drop split o) (simp length-drop (omega arith)))
-            ∙ ap (λ (k : ℕ). laid_to at o split split ++ lay_part g true k (drop split o)) (new_bridges split)
-            ∙ ap (λ (k : List Place). k ++ lay_part g true (numbers + bridges k) (drop split o)) w
-          where
-            cold_length : split ≤ length o → length o ≡ split + length (take (length o - split) (drop split o))
-            cold_length q = omega (arith, q, ap length (take_all (length o - split) (drop split o) (simp length-drop (omega arith))), length-drop split o)
-
-            warm : split ≤ length o → laid_to at o split split ≡ lay_part g false numbers (take split o)
-            warm q =
-                ap (laid_to at o split) (warm_length q) ∙ part_laid false (take split (drop 0 o)) 0
-                (part_is false split 0 split (omega arith) q (λ f. absurd (f refl)) (λ x _ b c. omega (arith, b, c)) (λ x _ b. lt-leb split x b))
-                ∙ start (lay_part g false (new_to at o split 0) (take split (drop 0 o))) ∙ ap (λ (k : ℕ). lay_part g false k (take split o)) first_new
-              where
-                warm_length : split ≤ length o → split ≡ 0 + length (take split (drop 0 o))
-                warm_length q = omega (arith, q, length-take split o)
+-- THE LAW
+pub laid_is : (at : ℕ → graph.Block) (g : graph.Graph) (o : List ℕ) (split : Option ℕ) → ((i : ℕ) → i < length o → at (get_or o i 0) ≡ graph.block_at g (get_or o i 0)) → ((s : ℕ) → split ≡ Some s → s ≤ length o) →
+    laid_to at o split (length o) ≡ lay_at g o split
+unfolding lay_at names cold_at
+laid_is at g o None own inside =
+    first_part at g o None own (length o) (omega arith) (λ _. refl) (λ x _. refl) (λ x _. refl) ∙ ap (lay_part g false numbers) (take_all (length o) o (omega arith))
+laid_is at g o (Some s) own inside =
+    let q : s ≤ length o = inside s refl in
+    let whole = take_all (length o - s) (drop s o) (simp length-drop (omega arith)) in
+    let long : length o ≡ s + length (take (length o - s) (drop s o)) = omega (arith, q, ap length whole, length-drop s o) in
+    let warm : laid_to at o (Some s) s ≡ lay_part g false numbers (take s o) =
+    first_part at g o (Some s) own s q (λ f. absurd (eqb-false s s f refl)) (λ x h. ne_eqb s (suc x) (λ z. omega (arith, h, z))) (λ x h. lt-leb s x h) in
+    ap (laid_to at o (Some s)) long
+    ∙ part_laid at g o (Some s) true (take (length o - s) (drop s o)) s
+    (part_is at g o (Some s) own true (length o - s) s (length o) (omega (arith, q)) (omega arith) (λ _. refl) (λ x a b. ne_eqb s (suc x) (λ z. omega (arith, a, z))) (λ x a b. le-leb s x a))
+    ∙ ap (λ (k : List ℕ). laid_to at o (Some s) s ++ lay_part g true (new_to at o (Some s) s) k) whole
+    ∙ ap (λ (k : ℕ). laid_to at o (Some s) s ++ lay_part g true k (drop s o)) (new_bridges at g o (Some s) s)
+    ∙ ap (λ (k : List Place). k ++ lay_part g true (numbers + bridges k) (drop s o)) warm

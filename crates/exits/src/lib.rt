@@ -1,16 +1,43 @@
 // How each block of an order is left, and the bridges this takes: the order as it is laid.
 #![tactic(auto)]
 
-ghost use Rattle.std.specs.Prelude.{◌≡◌, cond, ◌+◌, ◌≤◌, ◌<◌, length, get_or, set, take};
-ghost use Rattle.limits.specs.Limits.{blocks, arms};
+ghost use Rattle.std.specs.Prelude.{◌≡◌, ◌+◌, ◌≤◌, ◌<◌, get_or};
+ghost use Rattle.limits.specs.Limits.{blocks, arms, numbers};
 ghost use Rattle.rules.specs.declared.Leaving.TheVariants.{Exchanged};
-ghost use Rattle.rules.specs.Exits.{indirect, exit_of, arms_left};
-ghost use Rattle.records.specs.Tables.{arms_from, block_tables, only_arms, arm_tables, optional};
-ghost use Rattle.exits.specs.Lays.{leaving_of, goes_to, source_of, bridged_at, bridge_arm, Below, next_at, Layable, Unlaid, Lays};
+ghost use Rattle.rules.specs.Exits as rule;
+ghost use Rattle.rules.specs.Exits.{indirect, exit_of};
+ghost use Rattle.records.specs.Tables.{leaves, in_order, tabled};
+ghost use Rattle.exits.specs.Lays.{leaving_of, goes_to, source_of, BridgeWithin, Left, next_at, cold_at, with_arm, with_place, with_bridge, Unlaid, Fits, LaidOf};
 
 use limits::{ARMS, BLOCKS, NUMBERS};
-use records::Order;
+use records::{Arms, Graph, Order};
 use rules::Leaving;
+
+// What is laid: the graph of its blocks and bridges, the exit digits by block number, how many bridges there are, and the place of the
+// cold part's first block.
+#[derive(Drop)]
+pub struct Laid {
+    pub graph: Graph,
+    pub exits: [u8; BLOCKS],
+    pub bridges: usize,
+    pub split: Option<usize>,
+}
+
+impl Laid {
+    ghost use Rattle.exits.specs.Lays.{empty};
+
+    #[tactic(auto, unfolding(crate::specs::Lays::empty))]
+    pub fn empty() -> Self
+        ensures { result ≡ empty }
+    {
+        Laid {
+            graph: Graph::empty(),
+            exits: [0; BLOCKS],
+            bridges: 0,
+            split: None,
+        }
+    }
+}
 
 // How a block is left, with its exit digit.
 #[derive(Drop)]
@@ -20,66 +47,56 @@ pub struct Exit {
 }
 
 // Where it goes is in a register: ends 3 and 4.
+#[tactic(auto, unfolding(rules::specs::Exits::indirect))]
 fn leaves_indirectly(end: u8) -> bool
     ensures { result ≡ indirect end }
 {
-    if end < 3 { false } else { end < 5 }
+    3 <= end && end <= 4
 }
 
 // A block with one arm: nothing where its target is laid next, else a jump.
+#[tactic(auto, unfolding(crate::specs::Lays::leaving_of, rules::specs::Lists::pick))]
 fn one(end: u8, next: bool) -> Leaving
     ensures { result ≡ leaving_of end 1 next next }
 {
-    if leaves_indirectly(end) {
-        return Leaving::Nothing;
+    if leaves_indirectly(end) || next {
+        Leaving::Nothing
+    } else {
+        Leaving::Jump
     }
-    if next {
-        return Leaving::Nothing;
-    }
-    Leaving::Jump
 }
 
 // A block with two arms or more, by whether the first and the second go to the next block.
+#[tactic(auto, unfolding(crate::specs::Lays::leaving_of, rules::specs::Lists::pick))]
 fn two(end: u8, first: bool, second: bool) -> Leaving
     ensures { result ≡ leaving_of end 2 first second }
 {
     if leaves_indirectly(end) {
         return Leaving::Nothing;
     }
-    if end == 5 {
-        if first {
-            return Leaving::Nothing;
-        }
-        return Leaving::Bridge { arm: 0 };
+    match (end, first, second) {
+        (5, true, _) | (6, _, true) => Leaving::Nothing,
+        (5, false, _) => Leaving::Bridge { arm: 0 },
+        (6, _, false) => Leaving::Bridge { arm: 1 },
+        (_, _, true) => Leaving::Branch,
+        (_, true, false) => Leaving::Exchanged,
+        (_, false, false) => Leaving::Bridge { arm: 1 },
     }
-    if end == 6 {
-        if second {
-            return Leaving::Nothing;
-        }
-        return Leaving::Bridge { arm: 1 };
-    }
-    if second {
-        return Leaving::Branch;
-    }
-    if first {
-        return Leaving::Exchanged;
-    }
-    Leaving::Bridge { arm: 1 }
 }
 
+#[tactic(auto, unfolding(crate::specs::Lays::leaving_of, rules::specs::Lists::pick))]
 fn edges(end: u8, arms: usize, first: bool, second: bool) -> Leaving
     ensures { result ≡ leaving_of end arms first second }
 {
-    if arms == 0 {
-        return Leaving::Nothing;
+    match arms {
+        0 => Leaving::Nothing,
+        1 => one(end, first),
+        _ => two(end, first, second),
     }
-    if arms == 1 {
-        return one(end, first);
-    }
-    two(end, first, second)
 }
 
 // "0 nothing, 1 jump to arm 0, 2 branch taken on true, 3 exchanged"; a bridged branch keeps its 2.
+#[tactic(auto, unfolding(rules::specs::Exits::exit_of))]
 fn digit(end: u8, how: Leaving) -> u8
     ensures { result ≡ exit_of end how }
 {
@@ -88,299 +105,169 @@ fn digit(end: u8, how: Leaving) -> u8
         Leaving::Jump => 1,
         Leaving::Branch => 2,
         Leaving::Exchanged => 3,
-        Leaving::Bridge { arm: _ } => { if end == 2 { 2 } else { 0 } }
+        Leaving::Bridge { arm: _ } => if end == 2 { 2 } else { 0 },
     }
 }
 
-// Arm j of the c arms from arm f on goes to the next block.
-fn goes(to: &[u16; ARMS], f: usize, c: usize, j: usize, next: usize) -> bool
-    requires { (length to.now ≡ arms) × (f + c ≤ arms) }
-    ensures { result ≡ goes_to to.now f c j (optional next) }
+// Arm j of the c arms from arm f on goes to the next block. No slice of them: it would be made twice, for arms 0 and 1.
+#[tactic(auto, unfolding(crate::specs::Lays::goes_to, rules::specs::Graph::names))]
+fn goes(to: &[u16; ARMS], f: usize, c: usize, j: usize, next: Option<u16>) -> bool
+    requires { f + c ≤ arms }
+    ensures { result ≡ goes_to to.now f c j next }
 {
-    if c <= j {
-        return false;
-    }
-    if BLOCKS <= next {
-        return false;
-    }
-    next == lists::wide(to[f + j])
+    j < c && next == Some(to[f + j])
 }
 
-// How block n with this end is left where `next` is laid next.
-fn leaving<'a>(
-    end: u8,
-    first: &'a [u16; BLOCKS],
-    count: &'a [u16; BLOCKS],
-    to: &'a [u16; ARMS],
-    n: u16,
-    next: usize,
-) -> Exit
-    requires first_len { (length first.now ≡ blocks) × (length count.now ≡ blocks) × (length to.now ≡ arms) }
-    requires n_bound { get_or first.now n 0 + get_or count.now n 0 ≤ arms }
-    ensures how_value { result.how ≡ leaving_of end (get_or count.now n 0) (goes_to to.now (get_or first.now n 0) (get_or count.now n 0) 0 (optional next)) (goes_to to.now (get_or first.now n 0) (get_or count.now n 0) 1 (optional next)) }
-    ensures digit_value { result.digit ≡ exit_of end result.how }
+// How block n is left where `next` is laid next.
+#[tactic(auto, using(crate::proofs::Decisions::leaving_is))]
+fn leaving(g: &Graph, n: u16, next: Option<u16>) -> Exit
+    requires { get_or g.now.a.first n 0 + get_or g.now.a.count n 0 ≤ arms }
+    ensures how_value { result.how ≡ rule.edges next (get_or g.now.b.ends n 0) (leaves g.now.a n) }
+    ensures digit_value { result.digit ≡ exit_of (get_or g.now.b.ends n 0) result.how }
 {
-    let f = lists::entry_of(first, n);
-    let c = lists::entry_of(count, n);
-    let how = edges(end, c, goes(to, f, c, 0, next), goes(to, f, c, 1, next));
+    let f = g.a.first_of(n);
+    let c = g.a.count_of(n);
+    let end = g.b.end_of(n);
+    let how = edges(
+        end,
+        c,
+        goes(&g.a.to, f, c, 0, next),
+        goes(&g.a.to, f, c, 1, next),
+    );
     Exit {
         digit: digit(end, how),
         how,
     }
 }
 
-// The block laid after place i, BLOCKS for none: nothing follows the last of a part.
-fn next_of(order: &[u16; BLOCKS], len: usize, split: usize, i: usize) -> usize
-    requires { (length order.now ≡ blocks) × (len ≤ blocks) × (i < len) }
-    ensures { optional result ≡ next_at (take len order.now) split i }
+// The block laid after place i: nothing follows the last of a part.
+#[tactic(auto, unfolding(crate::specs::Lays::next_at, rules::specs::Graph::names, records::specs::Tables::in_order))]
+fn next_of(o: &Order, split: Option<usize>, i: usize) -> Option<u16>
+    requires { (o.now.len ≤ blocks) × (i < o.now.len) }
+    ensures { result ≡ next_at (in_order o.now) split i }
 {
     let k = i + 1;
-    if k == split {
-        return BLOCKS;
+    if split == Some(k) {
+        return None;
     }
-    if len <= k {
-        return BLOCKS;
-    }
-    lists::wide(order[k])
+    o.block[..o.len].get(k).copied()
+}
+
+// Place i of the order is in its cold part.
+#[tactic(auto, unfolding(crate::specs::Lays::cold_at))]
+fn is_cold(split: Option<usize>, i: usize) -> bool
+    ensures { result ≡ cold_at split i }
+{
+    split.is_some_and(|s| s <= i)
 }
 
 // The first two of c arms change places.
+#[tactic(auto, unfolding(crate::specs::Lays::source_of))]
 fn swapped(c: usize, j: usize) -> usize
     ensures { result ≡ source_of Exchanged c j }
 {
-    if c < 2 {
-        return j;
+    match j {
+        0 if 2 <= c => 1,
+        1 if 2 <= c => 0,
+        _ => j,
     }
-    if j == 0 {
-        return 1;
-    }
-    if j == 1 {
-        return 0;
-    }
-    j
 }
 
 // Which of c arms stands at j as the block is left.
+#[tactic(auto, using(crate::proofs::LeftArms::source_below), unfolding(crate::specs::Lays::source_of))]
 fn source(how: Leaving, c: usize, j: usize) -> usize
-    ensures { result ≡ source_of how c j }
+    ensures value { result ≡ source_of how c j }
+    ensures within { j < c → result < c }
 {
     match how {
-        Leaving::Nothing => j,
-        Leaving::Jump => j,
-        Leaving::Branch => j,
         Leaving::Exchanged => swapped(c, j),
-        Leaving::Bridge { arm: _ } => j,
+        _ => j,
     }
 }
 
-// Arm j goes to a bridge.
-fn bridged(how: Leaving, j: usize) -> bool
-    ensures { result ≡ bridged_at how j }
+// Arm q is arm x of `from`.
+#[tactic(auto, unfolding(crate::specs::Lays::with_arm))]
+fn put_arm(from: &Arms, x: usize, to: &mut Arms, q: usize)
+    requires { (x < arms) × (q < arms) }
+    ensures { to.new ≡ with_arm to.old q from.now x }
 {
-    match how {
-        Leaving::Nothing => false,
-        Leaving::Jump => false,
-        Leaving::Branch => false,
-        Leaving::Exchanged => false,
-        Leaving::Bridge { arm } => arm == j,
+    to.to[q] = from.to[x];
+    to.args[q] = from.args[x];
+    to.weight[q] = from.weight[x];
+}
+
+// The arms of block n, as it leaves them where a bridge would be numbered `new`: written from arm q on.
+fn leave(from: &Arms, n: u16, how: Leaving, new: u16, to: &mut Arms, q: usize)
+    requires from_bound { get_or from.now.first n 0 + get_or from.now.count n 0 ≤ arms }
+    requires to_bound { q + get_or from.now.count n 0 ≤ arms }
+    requires bridge_within { BridgeWithin (get_or from.now.count n 0) how }
+    ensures { Left from.now n how new to.old q to.new }
+{
+    let f = from.first_of(n);
+    let c = from.count_of(n);
+    for j in 0..c {
+        put_arm(from, f + source(how, c, j), to, q + j);
+    }
+    if let Leaving::Bridge { arm } = how {
+        // "the block's arm becomes a plain one"
+        to.to[q + arm] = new;
+        to.args[q + arm] = 0;
     }
 }
 
-// Where an arm goes, if a bridge is new.
-fn to_left(bridged: bool, new: u16, to: u16) -> u16
-    ensures { result ≡ cond bridged new to }
+// Block n is laid next, with the c arms that follow the last.
+#[tactic(auto, unfolding(crate::specs::Lays::with_place))]
+fn put_place(laid: &mut Laid, n: u16, c: usize, digit: u8)
+    requires { (n < blocks) × (laid.old.graph.blocks < blocks) × (laid.old.graph.arms + c ≤ arms) }
+    ensures { laid.new ≡ with_place laid.old n c digit }
 {
-    if bridged { new } else { to }
+    let k = n as usize;
+    laid.graph.b.listed[laid.graph.blocks] = n;
+    laid.graph.a.first[k] = laid.graph.arms as u16;
+    laid.graph.a.count[k] = c as u16;
+    laid.exits[k] = digit;
+    laid.graph.blocks += 1;
+    laid.graph.arms += c;
+    laid.graph.b.place[k] = laid.graph.blocks as u16;
 }
 
-// "the block's arm becomes a plain one"
-fn args_left(bridged: bool, args: u8) -> u8
-    ensures { result ≡ cond bridged 0 args }
+// A bridge is laid next, which takes this arm of block n.
+#[tactic(auto, unfolding(crate::specs::Lays::with_bridge))]
+fn put_bridge(from: &Arms, n: u16, arm: usize, cold: bool, laid: &mut Laid)
+    requires { (get_or from.now.first n 0 + arm < arms) × (numbers + laid.old.bridges < blocks) × (laid.old.graph.blocks < blocks) × (laid.old.graph.arms < arms) }
+    ensures { laid.new ≡ with_bridge from.now (get_or from.now.first n 0 + arm) cold laid.old }
 {
-    if bridged { 0 } else { args }
+    let x = from.first_of(n) + arm;
+    let new = NUMBERS + laid.bridges;
+    // bridges are "cold only in the cold part"
+    laid.graph.b.marks[new] = if cold { 2 } else { 0 };
+    laid.graph.b.ends[new] = 0;
+    laid.graph.b.weight[new] = from.weight[x];
+    put_arm(from, x, &mut laid.graph.a, laid.graph.arms);
+    put_place(laid, new as u16, 1, 1);
+    laid.bridges += 1;
 }
 
-// The c arms from arm f on, as the block leaves them where a bridge would be numbered `new`: written from arm q on.
-fn leave<'a>(
-    to: &'a [u16; ARMS],
-    args: &'a [u8; ARMS],
-    weight: &'a [u64; ARMS],
-    f: usize,
-    c: usize,
-    how: Leaving,
-    new: u16,
-    newto: &mut [u16; ARMS],
-    newargs: &mut [u8; ARMS],
-    newweight: &mut [u64; ARMS],
-    q: usize,
-)
-    requires to_len { (length to.now ≡ arms) × (length args.now ≡ arms) × (length weight.now ≡ arms) }
-    requires newto_len { (length newto.old ≡ arms) × (length newargs.old ≡ arms) × (length newweight.old ≡ arms) }
-    requires c_bound { (f + c ≤ arms) × (q + c ≤ arms) }
-    ensures newto_len_2 { (length newto.new ≡ arms) × (length newargs.new ≡ arms) × (length newweight.new ≡ arms) }
-    ensures c_after { arms_from (only_arms newto.new newargs.new newweight.new) q c ≡ arms_left new (arms_from (only_arms to.now args.now weight.now) f c) how }
-    ensures below { Below q (only_arms newto.new newargs.new newweight.new) (only_arms newto.old newargs.old newweight.old) }
+// The order as it is laid, its cold part from place `split` on: its blocks, each with its bridge behind it.
+pub fn lay(g: &Graph, o: &Order, split: Option<usize>, laid: &mut Laid)
+    requires layable { Fits g.now o.now split }
+    requires unlaid { Unlaid laid.old }
+    ensures { LaidOf (tabled g.now) (in_order o.now) split laid.new }
 {
-    let mut j: usize = 0;
-    while j < c {
-        let s = f + source(how, c, j);
-        let b = bridged(how, j);
-        let at = q + j;
-        newto[at] = to_left(b, new, to[s]);
-        newargs[at] = args_left(b, args[s]);
-        newweight[at] = weight[s];
-        j = j + 1;
-    }
-}
-
-// The arm that a bridge takes, ARMS for none.
-fn bridge_arm(how: Leaving) -> usize
-    ensures { result ≡ bridge_arm how }
-{
-    match how {
-        Leaving::Nothing => ARMS,
-        Leaving::Jump => ARMS,
-        Leaving::Branch => ARMS,
-        Leaving::Exchanged => ARMS,
-        Leaving::Bridge { arm } => arm,
-    }
-}
-
-// Block n is laid at place p, with c arms from arm q on.
-fn put_place(
-    listed: &mut [u16; BLOCKS],
-    place: &mut [u16; BLOCKS],
-    first: &mut [u16; BLOCKS],
-    count: &mut [u16; BLOCKS],
-    exits: &mut [u8; BLOCKS],
-    p: usize,
-    q: usize,
-    n: u16,
-    c: usize,
-    digit: u8,
-)
-    requires listed_len { (length listed.old ≡ blocks) × (length place.old ≡ blocks) × (length first.old ≡ blocks) × (length count.old ≡ blocks) × (length exits.old ≡ blocks) }
-    requires n_lt_blocks { (n < blocks) × (p < blocks) × (q + c ≤ arms) }
-    ensures { (listed.new ≡ set listed.old p n) × (place.new ≡ set place.old n (p + 1)) × (first.new ≡ set first.old n q) × (count.new ≡ set count.old n c) × (exits.new ≡ set exits.old n digit) }
-{
-    let k = lists::wide(n);
-    listed[p] = n;
-    place[k] = (p + 1) as u16;
-    first[k] = q as u16;
-    count[k] = c as u16;
-    exits[k] = digit;
-}
-
-// Arm q goes there, with arguments or without, and weighs this.
-fn put_arm(
-    to: &mut [u16; ARMS],
-    args: &mut [u8; ARMS],
-    weight: &mut [u64; ARMS],
-    q: usize,
-    t: u16,
-    a: u8,
-    w: u64,
-)
-    requires { (length to.old ≡ arms) × (length args.old ≡ arms) × (length weight.old ≡ arms) × (q < arms) }
-    ensures { (to.new ≡ set to.old q t) × (args.new ≡ set args.old q a) × (weight.new ≡ set weight.old q w) }
-{
-    to[q] = t;
-    args[q] = a;
-    weight[q] = w;
-}
-
-// Bridges are "cold only in the cold part".
-fn bridge_marks(cold: bool) -> u8
-    ensures { result ≡ cond cold 2 0 }
-{
-    if cold { 2 } else { 0 }
-}
-
-// Block n is a bridge of this weight.
-fn put_bridge(
-    marks: &mut [u8; BLOCKS],
-    ends: &mut [u8; BLOCKS],
-    weight: &mut [u64; BLOCKS],
-    n: u16,
-    cold: bool,
-    w: u64,
-)
-    requires { (length marks.old ≡ blocks) × (length ends.old ≡ blocks) × (length weight.old ≡ blocks) × (n < blocks) }
-    ensures { (marks.new ≡ set marks.old n (cond cold 2 0)) × (ends.new ≡ set ends.old n 0) × (weight.new ≡ set weight.old n w) }
-{
-    let k = lists::wide(n);
-    marks[k] = bridge_marks(cold);
-    ends[k] = 0;
-    weight[k] = w;
-}
-
-// How many places, arms and bridges there are in what is laid.
-#[derive(Drop)]
-pub struct Counts {
-    pub places: usize,
-    pub arms: usize,
-    pub bridges: usize,
-}
-
-// The order as it is laid, its cold part from place `split` on (BLOCKS: there is none): its blocks, each with its bridge
-// behind it. Marks, ends and weights stay in their tables, the bridges' with them; the other tables are filled from empty.
-pub fn lay<'a>(
-    ofirst: &'a [u16; BLOCKS],
-    ocount: &'a [u16; BLOCKS],
-    oto: &'a [u16; ARMS],
-    oargs: &'a [u8; ARMS],
-    oheft: &'a [u64; ARMS],
-    o: Order,
-    split: usize,
-    listed: &mut [u16; BLOCKS],
-    place: &mut [u16; BLOCKS],
-    marks: &mut [u8; BLOCKS],
-    ends: &mut [u8; BLOCKS],
-    weight: &mut [u64; BLOCKS],
-    first: &mut [u16; BLOCKS],
-    count: &mut [u16; BLOCKS],
-    exits: &mut [u8; BLOCKS],
-    to: &mut [u16; ARMS],
-    args: &mut [u8; ARMS],
-    heft: &mut [u64; ARMS],
-) -> Counts
-    requires layable { Layable marks.old ends.old weight.old (arm_tables ofirst.now ocount.now oto.now oargs.now oheft.now) o split }
-    requires unlaid { Unlaid listed.old place.old exits.old (arm_tables first.old count.old to.old args.old heft.old) }
-    ensures { Lays marks.old ends.old weight.old (arm_tables ofirst.now ocount.now oto.now oargs.now oheft.now) o split (block_tables place.new listed.new marks.new ends.new weight.new) (arm_tables first.new count.new to.new args.new heft.new) exits.new result }
-{
-    let mut p: usize = 0;
-    let mut q: usize = 0;
-    let mut k: usize = 0;
-    let mut i: usize = 0;
-    while i < o.len {
+    laid.graph.blocks = 0;
+    laid.graph.arms = 0;
+    laid.bridges = 0;
+    laid.graph.b.marks = g.b.marks;
+    laid.graph.b.ends = g.b.ends;
+    laid.graph.b.weight = g.b.weight;
+    for i in 0..o.len {
         let n = o.block[i];
-        let f = lists::entry_of(ofirst, n);
-        let c = lists::entry_of(ocount, n);
-        let next = next_of(&o.block, o.len, split, i);
-        let end = ends[lists::wide(n)];
-        let e = leaving(end, ofirst, ocount, oto, n, next);
-        let how = e.how;
-        let new = (NUMBERS + k) as u16;
-        leave(oto, oargs, oheft, f, c, how, new, to, args, heft, q);
-        put_place(listed, place, first, count, exits, p, q, n, c, e.digit);
-        p = p + 1;
-        q = q + c;
-        i = i + 1;
-        let arm = bridge_arm(how);
-        if arm == ARMS {
-            continue;
+        let e = leaving(g, n, next_of(o, split, i));
+        let new = (NUMBERS + laid.bridges) as u16;
+        leave(&g.a, n, e.how, new, &mut laid.graph.a, laid.graph.arms);
+        put_place(laid, n, g.a.count_of(n), e.digit);
+        if let Leaving::Bridge { arm } = e.how {
+            put_bridge(&g.a, n, arm, is_cold(split, i), laid);
         }
-        let x = f + arm;
-        put_arm(to, args, heft, q, oto[x], oargs[x], oheft[x]);
-        put_place(listed, place, first, count, exits, p, q, new, 1, 1);
-        put_bridge(marks, ends, weight, new, split < i, oheft[x]);
-        p = p + 1;
-        q = q + 1;
-        k = k + 1;
-    }
-    Counts {
-        places: p,
-        arms: q,
-        bridges: k,
     }
 }

@@ -1,2 +1,3 @@
-pub mod LentLaws
+pub mod SoundLaws
 pub mod ScanLaws
+pub mod PartLaws

@@ -1,9 +1,2 @@
-// What the passes that go by weights are lent: the marks and weights of blocks, and their arms with weights.
+// What the passes that go by weights ask of a graph: definitions alone (specs/).
 #![tactic(auto)]
-
-// One of a block's arms, by its place among all arms; or none of them.
-#[derive(Drop)]
-pub enum Choice {
-    Arm(usize),
-    Nothing,
-}

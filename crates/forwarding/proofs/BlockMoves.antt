@@ -1,24 +1,29 @@
 -- The arms of all blocks, as they move in place, are those of document 01, and so is the count of moves. Assumes nothing.
-use Prim.Native.Nat.{ℕ, zero, suc, ◌+◌, ◌≤◌, ◌<◌}
-use native.Mathlib.Omega.{arith}
-use mathlib.Core.Path.{◌≡◌, refl, sym, ap, ap₂, ◌∙◌, subst}
-use mathlib.Core.Bool.{true, false}
-use mathlib.Core.List.{List, [], ◌∷◌, ◌++◌, map}
-use mathlib.Core.Option.{Option}
-use lib.ListN.{length, get_or, length-set}
+use Rattle.std.proofs.Common.{ℕ, zero, suc, ◌+◌, ◌-◌, ◌≤◌, ◌<◌, ◌≡◌, refl, sym, ap, ◌∙◌, subst, true, false, List, [], ◌∷◌, ◌++◌, map, length, get_or, arith}
+use Rattle.std.specs.Prelude.{Option, None}
+use Rattle.std.specs.List.{between}
+use Rattle.std.proofs.lemmas.List.Edits.{length-between, get_or-between}
+use mathlib.Core.Path.{ap₂}
 use Rattle.lists.proofs.Choices.{split_bool}
 use Rattle.rules.specs.Graph as graph
 use Rattle.rules.specs.Graph.{with_arms}
 use Rattle.rules.specs.Ours.{ours}
 use Rattle.rules.specs.Forward.{moved_arms, moved_block, elsewhere, moves_between}
-use Rattle.rules.proofs.Membership.{pick_ind, map_append}
+use Rattle.rules.proofs.Membership.{map_append}
 use Rattle.records.specs.declared.Blocks.{Blocks}
 use Rattle.records.specs.declared.Arms.{Arms}
-use Rattle.records.specs.Tables.{Has, arm_at, arms_from, leaves, block_at, up_to, optional}
+use Rattle.records.specs.Tables.{Has, ArmsWithin, arm_at, arms_from, leaves, block_at, up_to}
 use Rattle.records.proofs.TableLaws.{leaves_count, up_to_length}
-use Rattle.forwarding.specs.Steps.{ours_of, hop_of, turned_of, turn_of, move_of, turns_of, moved_of}
-use Rattle.forwarding.proofs.StepLaws.{turn_not, turn_ours}
-use Rattle.forwarding.proofs.ArmMoves.{with_to, arms_same, outside, moved_all, moves_counted, elsewhere_none}
+use Rattle.forwarding.specs.Steps.{ours_of, differing, turn_of, turns_of, moved_of, with_to, put}
+use Rattle.forwarding.proofs.StepLaws.{turn_not, turn_ours, put_length, put_in, put_out, part_long, turns_length}
+use Rattle.forwarding.proofs.ArmMoves.{arms_to, arms_between, elsewhere_to, moved_to}
+
+-- ---- parts of the tables
+pub arms_same : (a c : Arms) (n f : ℕ) → ((q : ℕ) → f ≤ q → q < f + n → arm_at a q ≡ arm_at c q) → arms_from a f n ≡ arms_from c f n
+unfolding arms_from
+arms_same a c zero f h = refl
+arms_same a c (suc n) f h =
+    ap₂ ◌∷◌ (h f (omega arith) (omega arith)) (arms_same a c n (suc f) (λ q l m. h q (omega (arith, l)) (omega (arith, m))))
 
 -- ---- blocks whose arms may be moved
 pub ours_is : (b : Blocks) (a : Arms) (k : ℕ) → ours (block_at b a k) ≡ ours_of (get_or b.ends k 0) (get_or a.count k 0)
@@ -34,60 +39,62 @@ unfolding moved_block
 moved_no goals x e = rw (e, moved_block)
 
 -- ---- one block
-module _ (onward : List ℕ) (b : Blocks) (a : Arms) (k : ℕ) (to : List ℕ) where
+module _ (onward : List (Option ℕ)) (b : Blocks) (a : Arms) (k : ℕ) (to : List ℕ) (fits : get_or a.first k 0 + get_or a.count k 0 ≤ length to) where
+  abbrev f : ℕ
+  f = get_or a.first k 0
+
+  abbrev n : ℕ
+  n = get_or a.count k 0
+
+  abbrev part : List ℕ
+  part = between f (f + n) to
+
+  abbrev part' : List ℕ
+  part' = turn_of onward (get_or b.ends k 0) part
+
   abbrev to' : List ℕ
-  to' = turn_of onward (get_or b.ends k 0) (get_or a.first k 0) (get_or a.count k 0) to
+  to' = put f (f + n) part' to
+
+  long : length part' ≡ n
+  long = part_long onward (get_or b.ends k 0) f n to fits
 
   -- the arms of other blocks stay
   pub turn_outside : (q : ℕ) → (Has a k q → ⊥) → get_or to' q 0 ≡ get_or to q 0
-  unfolding turn_of
-  turn_outside q d =
-      let f = get_or a.first k 0 in
-      let n = get_or a.count k 0 in
-      pick_ind (λ (l : List ℕ). get_or l q 0 ≡ get_or to q 0) (ours_of (get_or b.ends k 0) n) (turned_of onward f n to n) to
-      (outside onward f n to q (λ i h e. d (record { from = omega (arith, e); below = omega (arith, e, h) })) n (omega arith))
-      refl
+  turn_outside q d = put_out to part' f n fits long q (λ l m. d (record { from = l; below = m }))
 
-  module _ (goals : ℕ → Option ℕ) (fits : get_or a.first k 0 + get_or a.count k 0 ≤ length to)
-      (known : (q : ℕ) → Has a k q → goals (get_or to q 0) ≡ optional (get_or onward (get_or to q 0) 0)) where
-    known_in : (q : ℕ) → get_or a.first k 0 ≤ q → q < get_or a.first k 0 + get_or a.count k 0 → goals (get_or to q 0) ≡ optional (get_or onward (get_or to q 0) 0)
-    known_in q l m = known q (record { from = l; below = m })
+  leaves_are : leaves (with_to a to) k ≡ arms_to a.args a.weight f part
+  unfolding leaves
+  leaves_are = arms_between (with_to a to) n f fits
 
-    arms_moved : block_at b (with_to a (turned_of onward (get_or a.first k 0) (get_or a.count k 0) to (get_or a.count k 0))) k
-        ≡ with_arms (block_at b (with_to a to) k) (moved_arms goals [] (block_at b (with_to a to) k).arms)
-    unfolding block_at leaves with_arms
-    arms_moved =
-        ap (λ (l : List graph.Arm). with_arms (block_at b (with_to a to) k) l) (moved_all onward goals a (get_or a.first k 0) (get_or a.count k 0) to fits known_in)
+  leaves_then : leaves (with_to a to') k ≡ arms_to a.args a.weight f part'
+  unfolding leaves
+  leaves_then = arms_between (with_to a to') n f (omega (arith, fits, put_length to part' f n fits long)) ∙ ap (arms_to a.args a.weight f) (put_in to part' f n fits long)
 
-    pub block_turned : block_at b (with_to a to') k ≡ moved_block goals (block_at b (with_to a to) k)
-    block_turned =
-        let f = get_or a.first k 0 in
-        let n = get_or a.count k 0 in
-        let end = get_or b.ends k 0 in
-        split_bool (ours_of end n)
-        (λ e.
-        ap (λ (l : List ℕ). block_at b (with_to a l) k) (sym (turn_ours onward end f n to e).1)
-        ∙ arms_moved
-        ∙ sym (moved_yes goals (block_at b (with_to a to) k) (ours_is b (with_to a to) k ∙ e)))
-        (λ e.
-        ap (λ (l : List ℕ). block_at b (with_to a l) k) (sym (turn_not onward end f n to e).1)
-        ∙ sym (moved_no goals (block_at b (with_to a to) k) (ours_is b (with_to a to) k ∙ e)))
+  pub block_counted : differing part part' ≡ elsewhere (leaves (with_to a to) k) (leaves (with_to a to') k)
+  block_counted = sym (elsewhere_to a.args a.weight part part' f) ∙ ap₂ elsewhere (sym leaves_are) (sym leaves_then)
 
-    pub block_counted : move_of onward (get_or b.ends k 0) (get_or a.first k 0) (get_or a.count k 0) to ≡ elsewhere (leaves (with_to a to) k) (leaves (with_to a to') k)
-    unfolding leaves
-    block_counted =
-        let f = get_or a.first k 0 in
-        let n = get_or a.count k 0 in
-        let end = get_or b.ends k 0 in
-        split_bool (ours_of end n)
-        (λ e.
-        sym (turn_ours onward end f n to e).0
-        ∙ moves_counted onward goals a f n to fits known_in n (omega arith)
-        ∙ ap (λ (l : List ℕ). elsewhere (arms_from (with_to a to) f n) (arms_from (with_to a l) f n)) (turn_ours onward end f n to e).1)
-        (λ e.
-        sym (turn_not onward end f n to e).0
-        ∙ sym (elsewhere_none (arms_from (with_to a to) f n))
-        ∙ ap (λ (l : List ℕ). elsewhere (arms_from (with_to a to) f n) (arms_from (with_to a l) f n)) (turn_not onward end f n to e).1)
+  ours_here : ours (block_at b (with_to a to) k) ≡ ours_of (get_or b.ends k 0) (length part)
+  ours_here = ours_is b (with_to a to) k ∙ ap (ours_of (get_or b.ends k 0)) (let e : n ≡ f + n - f = omega arith in e ∙ sym (length-between to f (f + n) fits))
+
+  -- the block with these arms
+  abbrev armed : List graph.Arm → graph.Block
+  armed l = record { number = k; marks = get_or b.marks k 0; end = get_or b.ends k 0; weight = get_or b.weight k 0; arms = l }
+
+  pub block_turned : (goals : ℕ → Option ℕ) → ((q : ℕ) → Has a k q → goals (get_or to q 0) ≡ get_or onward (get_or to q 0) None)
+      → block_at b (with_to a to') k ≡ moved_block goals (block_at b (with_to a to) k)
+  unfolding block_at with_arms
+  block_turned goals known =
+      let x = block_at b (with_to a to) k in
+      let here : (j : ℕ) → j < length part → goals (get_or part j 0) ≡ get_or onward (get_or part j 0) None =
+      λ j h.
+      let m : f + j < f + n = omega (arith, h, length-between to f (f + n) fits) in
+      rw (get_or-between to f (f + n) j 0 m) (known (f + j) (record { from = omega arith; below = m })) in
+      split_bool (ours_of (get_or b.ends k 0) (length part))
+      (λ e.
+      ap armed (leaves_then ∙ ap (arms_to a.args a.weight f) (turn_ours onward (get_or b.ends k 0) part e) ∙ sym (moved_to onward goals a.args a.weight f part here) ∙ ap (moved_arms goals []) (sym leaves_are))
+      ∙ sym (moved_yes goals x (ours_here ∙ e)))
+      (λ e.
+      ap armed (leaves_then ∙ ap (arms_to a.args a.weight f) (turn_not onward (get_or b.ends k 0) part e) ∙ sym leaves_are) ∙ sym (moved_no goals x (ours_here ∙ e)))
 
 -- ---- lists of blocks
 pub up_to_same : (b c : Blocks) (a d : Arms) (n : ℕ) → ((i : ℕ) → i < n → block_at b a (get_or b.listed i 0) ≡ block_at c d (get_or c.listed i 0)) → up_to b a n ≡ up_to c d n
@@ -103,37 +110,22 @@ moves_more (c ∷ g) [] x y e = absurd (omega (arith, e))
 moves_more (c ∷ g) (d ∷ h) x y e = omega (arith, moves_more g h x y (omega (arith, e)))
 
 -- ---- all blocks, in their order
-module _ (onward : List ℕ) (goals : ℕ → Option ℕ) (b : Blocks) (a : Arms) (n : ℕ)
+module _ (onward : List (Option ℕ)) (goals : ℕ → Option ℕ) (b : Blocks) (a : Arms) (n : ℕ)
     (apart : (i j : ℕ) → i < n → j < n → (i ≡ j → ⊥) → (q : ℕ) → Has a (get_or b.listed i 0) q → Has a (get_or b.listed j 0) q → ⊥)
-    (fits : (k : ℕ) → get_or a.first k 0 + get_or a.count k 0 ≤ length a.to)
-    (known : (i : ℕ) → i < n → (q : ℕ) → Has a (get_or b.listed i 0) q → goals (get_or a.to q 0) ≡ optional (get_or onward (get_or a.to q 0) 0)) where
+    (fits : ArmsWithin a (length a.to))
+    (known : (i : ℕ) → i < n → (q : ℕ) → Has a (get_or b.listed i 0) q → goals (get_or a.to q 0) ≡ get_or onward (get_or a.to q 0) None) where
   abbrev t : ℕ → List ℕ
-  t i = turns_of onward b.listed b.ends a.first a.count a.to i
+  t i = turns_of onward b a i
 
   abbrev w : ℕ → Arms
   w i = with_to a (t i)
 
-  turned_sized : (f m : ℕ) (to : List ℕ) (j : ℕ) → length (turned_of onward f m to j) ≡ length to
-  unfolding turned_of
-  turned_sized f m to zero = refl
-  turned_sized f m to (suc j) =
-      let s = turned_of onward f m to j in
-      length-set s (f + j) (hop_of onward s f m (f + j)) ∙ turned_sized f m to j
-
-  pub turns_sized : (i : ℕ) → length (t i) ≡ length a.to
-  unfolding turns_of turn_of
-  turns_sized zero = refl
-  turns_sized (suc i) =
-      let k = get_or b.listed i 0 in
-      let f = get_or a.first k 0 in
-      let m = get_or a.count k 0 in
-      pick_ind (λ (l : List ℕ). length l ≡ length a.to) (ours_of (get_or b.ends k 0) m) (turned_of onward f m (t i) m) (t i)
-      (turned_sized f m (t i) m ∙ turns_sized i)
-      (turns_sized i)
+  fits_here : (i : ℕ) → get_or a.first (get_or b.listed i 0) 0 + get_or a.count (get_or b.listed i 0) 0 ≤ length (t i)
+  fits_here i = omega (arith, fits (get_or b.listed i 0), turns_length onward b a fits i)
 
   next : (i q : ℕ) → (Has a (get_or b.listed i 0) q → ⊥) → get_or (t (suc i)) q 0 ≡ get_or (t i) q 0
   unfolding turns_of
-  next i q d = turn_outside onward b a (get_or b.listed i 0) (t i) q d
+  next i q d = turn_outside onward b a (get_or b.listed i 0) (t i) (fits_here i) q d
 
   -- blocks whose turn is yet to come
   later : (i j : ℕ) → i ≤ j → j < n → (q : ℕ) → Has a (get_or b.listed j 0) q → get_or (t i) q 0 ≡ get_or a.to q 0
@@ -159,21 +151,19 @@ module _ (onward : List ℕ) (goals : ℕ → Option ℕ) (b : Blocks) (a : Arms
   here_first : (i : ℕ) → i < n → block_at b (w i) (get_or b.listed i 0) ≡ block_at b a (get_or b.listed i 0)
   here_first i l = same_block (t i) a.to (get_or b.listed i 0) (λ q h. later i i (omega arith) l q h)
 
-  known_here : (i : ℕ) → i < n → (q : ℕ) → Has a (get_or b.listed i 0) q → goals (get_or (t i) q 0) ≡ optional (get_or onward (get_or (t i) q 0) 0)
-  known_here i l q h = subst (λ (v : ℕ). goals v ≡ optional (get_or onward v 0)) (sym (later i i (omega arith) l q h)) (known i l q h)
-
-  fits_here : (i : ℕ) → get_or a.first (get_or b.listed i 0) 0 + get_or a.count (get_or b.listed i 0) 0 ≤ length (t i)
-  fits_here i = omega (arith, fits (get_or b.listed i 0), turns_sized i)
+  known_here : (i : ℕ) → i < n → (q : ℕ) → Has a (get_or b.listed i 0) q → goals (get_or (t i) q 0) ≡ get_or onward (get_or (t i) q 0) None
+  known_here i l q h = subst (λ (v : ℕ). goals v ≡ get_or onward v None) (sym (later i i (omega arith) l q h)) (known i l q h)
 
   turned_here : (i : ℕ) → i < n → block_at b (w (suc i)) (get_or b.listed i 0) ≡ moved_block goals (block_at b (w i) (get_or b.listed i 0))
   unfolding turns_of
-  turned_here i l = block_turned onward b a (get_or b.listed i 0) (t i) goals (fits_here i) (known_here i l)
+  turned_here i l = block_turned onward b a (get_or b.listed i 0) (t i) (fits_here i) goals (known_here i l)
 
   counted_here : (i : ℕ) → i < n
-      → move_of onward (get_or b.ends (get_or b.listed i 0) 0) (get_or a.first (get_or b.listed i 0) 0) (get_or a.count (get_or b.listed i 0) 0) (t i)
-      ≡ elsewhere (block_at b (w i) (get_or b.listed i 0)).arms (block_at b (w (suc i)) (get_or b.listed i 0)).arms
+      → (let f = get_or a.first (get_or b.listed i 0) 0 in
+      let part = between f (f + get_or a.count (get_or b.listed i 0) 0) (t i) in
+      differing part (turn_of onward (get_or b.ends (get_or b.listed i 0) 0) part) ≡ elsewhere (block_at b (w i) (get_or b.listed i 0)).arms (block_at b (w (suc i)) (get_or b.listed i 0)).arms)
   unfolding block_at turns_of
-  counted_here i l = block_counted onward b a (get_or b.listed i 0) (t i) goals (fits_here i) (known_here i l)
+  counted_here i l = block_counted onward b a (get_or b.listed i 0) (t i) (fits_here i)
 
   pub all_turned : (i : ℕ) → i ≤ n → up_to b (w i) i ≡ map (moved_block goals) (up_to b a i)
   unfolding up_to
@@ -186,7 +176,7 @@ module _ (onward : List ℕ) (goals : ℕ → Option ℕ) (b : Blocks) (a : Arms
       ap₂ (λ (g : graph.Graph) (x : graph.Block). g ++ (x ∷ [])) (before_stay i h ∙ all_turned i (omega (arith, l))) e
       ∙ sym (map_append (moved_block goals) (up_to b a i) (block_at b a k ∷ []))
 
-  pub all_counted : (i : ℕ) → i ≤ n → moved_of onward b.listed b.ends a.first a.count a.to i ≡ moves_between (up_to b a i) (up_to b (w i) i)
+  pub all_counted : (i : ℕ) → i ≤ n → moved_of onward b a i ≡ moves_between (up_to b a i) (up_to b (w i) i)
   unfolding up_to moved_of moves_between
   all_counted zero l = refl
   all_counted (suc i) l =

@@ -1,12 +1,8 @@
 -- The passes, one after the other, are document 01's "Forward". Assumes nothing.
-use Prim.Native.Nat.{ℕ, zero, suc, ◌+◌, ◌≤◌, ◌<◌}
-use native.Mathlib.Omega.{arith}
-use mathlib.Core.Path.{◌≡◌, refl, sym, ap, ◌∙◌, subst}
-use mathlib.Core.Bool.{not}
+use Rattle.std.proofs.Common.{ℕ, zero, suc, ◌+◌, ◌≤◌, ◌<◌, ◌≡◌, sym, ap, ◌∙◌, subst, false, List, map, length, get_or, arith}
+use Rattle.std.specs.Prelude.{Option, None}
+use mathlib.Core.Bool.{Bool}
 use mathlib.Core.Logic.{inl, inr}
-use mathlib.Core.List.{List, map}
-use lib.Dec.{eqb}
-use lib.ListN.{length, get_or, replicate}
 use Rattle.limits.specs.Limits.{numbers, most_arms, blocks}
 use Rattle.lists.proofs.Choices.{split_lt}
 use Rattle.rules.specs.Graph as graph
@@ -14,19 +10,17 @@ use Rattle.rules.specs.Graph.{numbers_of}
 use Rattle.rules.specs.Forward.{goal, moved_all, entered, cleared_block, forward, moves_between, moves}
 use Rattle.rules.proofs.Membership.{In}
 use Rattle.rules.proofs.Wholeness.{Whole, block_in, arm_target}
-use Rattle.records.specs.declared.Blocks.{Blocks}
+use Rattle.rules.proofs.Forwarded.{forward_whole}
 use Rattle.records.specs.declared.Arms.{Arms}
 use Rattle.records.specs.declared.Graph.{Graph}
-use Rattle.records.specs.Tables.{Has, Apart, arm_at, arms_from, leaves, block_at, up_to, tabled, optional, Stands}
+use Rattle.records.specs.Tables.{Has, Apart, ArmsWithin, arm_at, arms_from, leaves, block_at, up_to, tabled, Stands, Sound}
 use Rattle.records.proofs.StandLaws.{listed_in, in_listed, find_listed}
 use Rattle.forwarding.specs.Forwards.{changed, Forwarded}
-use Rattle.forwarding.specs.Steps.{goals_of, turns_of, moved_of, reached_of, Cleared, clearing, clears_of, Safe, FirstIn, Sure}
-use Rattle.forwarding.proofs.StepLaws.{turns_small}
-use Rattle.forwarding.proofs.GoalLaws.{f_of, small, safe, goal_is, goals_get}
-use Rattle.forwarding.proofs.ArmMoves.{with_to}
-use Rattle.forwarding.proofs.BlockMoves.{turns_sized, all_turned, all_counted}
-use Rattle.forwarding.proofs.ReachLaws.{entered_is}
-use Rattle.forwarding.proofs.ClearLaws.{clearable, blocks_with, arms_with, cleared, Long, fewer, clears_long, all_cleared}
+use Rattle.forwarding.specs.Steps.{Goals, turned, moved_of, Leads, cleared}
+use Rattle.forwarding.proofs.StepLaws.{turns_length, turns_small}
+use Rattle.forwarding.proofs.GoalLaws.{small}
+use Rattle.forwarding.proofs.BlockMoves.{all_turned, all_counted}
+use Rattle.forwarding.proofs.ClearLaws.{Long, kept, fewer, cleared_long, all_cleared}
 
 arm_in : (a : Arms) (n f q : ℕ) → f ≤ q → q < f + n → In (arm_at a q) (arms_from a f n)
 unfolding arms_from
@@ -36,175 +30,136 @@ arm_in a (suc n) f q l m =
     (λ h. inr (arm_in a n (suc f) q (omega (arith, h)) (omega (arith, m))))
     (λ h. inl (ap (arm_at a) (let e : q ≡ f = omega (arith, l, h) in e)))
 
-module _ (t : Graph) (st : Stands numbers most_arms t (tabled t)) (whole : Whole (tabled t)) where
-  abbrev b : Blocks
-  b = t.b
-
-  abbrev a : Arms
-  a = t.a
-
+module _ (t : Graph) (s : Sound t) where
   abbrev n : ℕ
   n = t.blocks
 
   abbrev k : ℕ → ℕ
   k i = get_or t.b.listed i 0
 
-  pub below : (i : ℕ) → i < n → k i < blocks
-  below i l = omega (arith, st.below i l)
+  below : (i : ℕ) → i < n → k i < blocks
+  below i l = omega (arith, s.stands.below i l)
 
   -- every arm goes to a listed block
-  block_is_in : (i : ℕ) → i < n → In (block_at b a (k i)) (tabled t)
+  block_is_in : (i : ℕ) → i < n → In (block_at t.b t.a (k i)) (tabled t)
   unfolding tabled
-  block_is_in i l = subst (λ (x : graph.Block). In x (up_to b a n)) (find_listed b a i n l) (block_in (up_to b a n) (k i) (listed_in b a i n l)).0
+  block_is_in i l = subst (λ (x : graph.Block). In x (up_to t.b t.a n)) (find_listed t.b t.a i n l) (block_in (up_to t.b t.a n) (k i) (listed_in t.b t.a i n l)).0
 
-  leaves_in : (i q : ℕ) → Has a (k i) q → In (arm_at a q) (block_at b a (k i)).arms
+  leaves_in : (i q : ℕ) → Has t.a (k i) q → In (arm_at t.a q) (block_at t.b t.a (k i)).arms
   unfolding block_at leaves
-  leaves_in i q h = arm_in a (get_or a.count (k i) 0) (get_or a.first (k i) 0) q h.from h.below
+  leaves_in i q h = arm_in t.a (get_or t.a.count (k i) 0) (get_or t.a.first (k i) 0) q h.from h.below
 
-  target_in : (i : ℕ) → i < n → (q : ℕ) → Has a (k i) q → In (get_or a.to q 0) (numbers_of (tabled t))
+  target_in : (i : ℕ) → i < n → (q : ℕ) → Has t.a (k i) q → In (get_or t.a.to q 0) (numbers_of (tabled t))
   unfolding arm_at
-  target_in i l q h = whole (block_at b a (k i)) (block_is_in i l) (get_or a.to q 0) (arm_target (block_at b a (k i)) (arm_at a q) (leaves_in i q h))
+  target_in i l q h = s.whole (block_at t.b t.a (k i)) (block_is_in i l) (get_or t.a.to q 0) (arm_target (block_at t.b t.a (k i)) (arm_at t.a q) (leaves_in i q h))
 
-  pub firsts : FirstIn a.first
-  firsts m = omega (arith, st.fits m)
-
-  pub chains : (i : ℕ) → i < n → Safe (f_of b a) (suc n) (k i)
-  unfolding tabled
-  chains i l = safe t st whole (suc n) (k i) (listed_in b a i n l)
-
-  pub sure : Sure b.listed a.first a.count a.to n
-  sure =
+  leads : Leads t
+  leads =
       record {
-        few = omega (arith, st.few);
-        below = below;
-        fits = λ m. omega (arith, st.fits m);
+        few = omega (arith, s.stands.few);
+        fits = λ m. omega (arith, s.stands.fits m);
         leads = λ i l q h.
-            omega (arith, small t st whole (get_or a.to (get_or a.first (k i) 0 + q) 0) (target_in i l (get_or a.first (k i) 0 + q) (record { from = omega arith; below = omega (arith, h) })));
+            omega (arith, small t s (get_or t.a.to (get_or t.a.first (k i) 0 + q) 0) (target_in i l (get_or t.a.first (k i) 0 + q) (record { from = omega arith; below = omega (arith, h) })));
       }
 
-  module _ (onward : List ℕ) where
-    abbrev to' : List ℕ
-    to' = turns_of onward b.listed b.ends a.first a.count a.to n
+  fits : ArmsWithin t.a (length t.a.to)
+  fits m = omega (arith, s.stands.fits m, s.stands.arms_sized.to)
+
+  module _ (onward : List (Option ℕ)) (g : Goals t onward n) where
+    abbrev u : Graph
+    u = turned onward t n
 
     -- after the moves
-    pub sure_moved : Sure b.listed a.first a.count to' n
-    sure_moved =
+    pub leads_on : Leads u
+    leads_on =
         record {
-          few = sure.few;
-          below = below;
-          fits = sure.fits;
-          leads = λ i l q h. turns_small onward b.listed b.ends a.first a.count a.to n (get_or a.first (k i) 0 + q) (sure.leads i l q h);
+          few = leads.few;
+          fits = leads.fits;
+          leads = λ i l q h. turns_small onward t.b t.a fits g.small n (get_or t.a.first (k i) 0 + q) (leads.leads i l q h);
         }
 
-    module _ (goals_known : (i : ℕ) → i < n → goal (tabled t) (k i) ≡ optional (get_or onward (k i) 0)) (apart : Apart t) where
-      known_in : (x : ℕ) → In x (numbers_of (tabled t)) → goal (tabled t) x ≡ optional (get_or onward x 0)
+    module _ (apart : Apart t) where
+      known : (i : ℕ) → i < n → (q : ℕ) → Has t.a (k i) q → goal (tabled t) (get_or t.a.to q 0) ≡ get_or onward (get_or t.a.to q 0) None
       unfolding tabled
-      known_in x i = let r = in_listed b a x n i in subst (λ (y : ℕ). goal (tabled t) y ≡ optional (get_or onward y 0)) r.2 (goals_known r.0 r.1)
+      known i l q h =
+          let r = in_listed t.b t.a (get_or t.a.to q 0) n (target_in i l q h) in
+          subst (λ (y : ℕ). goal (tabled t) y ≡ get_or onward y None) r.2 (sym (g.known r.0 r.1))
 
-      known : (i : ℕ) → i < n → (q : ℕ) → Has a (k i) q → goal (tabled t) (get_or a.to q 0) ≡ optional (get_or onward (get_or a.to q 0) 0)
-      known i l q h = known_in (get_or a.to q 0) (target_in i l q h)
-
-      fits : (m : ℕ) → get_or a.first m 0 + get_or a.count m 0 ≤ length a.to
-      fits m = omega (arith, st.fits m, st.arms_sized.to)
-
-      moved_graph : up_to b (with_to a to') n ≡ moved_all (tabled t)
+      moved_graph : tabled u ≡ moved_all (tabled t)
       unfolding moved_all tabled
-      moved_graph = all_turned onward (goal (tabled t)) b a n apart fits known n (omega arith)
+      moved_graph = all_turned onward (goal (tabled t)) t.b t.a n apart fits known n (omega arith)
 
-      pub moved_count : moved_of onward b.listed b.ends a.first a.count a.to n ≡ moves (tabled t)
+      moved_count : moved_of onward t.b t.a n ≡ moves (tabled t)
       unfolding moves tabled
-      moved_count = all_counted onward (goal (tabled t)) b a n apart fits known n (omega arith) ∙ ap (moves_between (up_to b a n)) moved_graph
+      moved_count = all_counted onward (goal (tabled t)) t.b t.a n apart fits known n (omega arith) ∙ ap (moves_between (up_to t.b t.a n)) moved_graph
 
       once : (i j : ℕ) → i < n → j < n → k i ≡ k j → i ≡ j
-      once i j l m e = omega (arith, sym (st.back i l) ∙ ap (λ (x : ℕ). get_or b.place x 0) e ∙ st.back j m)
+      once i j l m e = omega (arith, sym (s.stands.back i l) ∙ ap (λ (x : ℕ). get_or t.b.place x 0) e ∙ s.stands.back j m)
 
-      start_long : Long (clearable b (with_to a to'))
-      unfolding clearable
-      start_long = record { marks = st.blocks_sized.marks; weight = st.blocks_sized.weight; count = st.arms_sized.count }
+      start_long : Long u
+      start_long = record { marks = s.stands.blocks_sized.marks; weight = s.stands.blocks_sized.weight; count = s.stands.arms_sized.count }
 
-      module _ (reached : List ℕ) (in_to : (x : ℕ) → entered (up_to b (with_to a to') n) x ≡ not (eqb (get_or reached x 0) 0)) where
-        abbrev a' : Arms
-        a' = with_to a to'
-
+      module _ (reached : List Bool) (in_to : (x : ℕ) → get_or reached x false ≡ entered (tabled u) x) where
         abbrev r : Graph
-        r = cleared onward reached (record { blocks = n; arms = t.arms; b = b; a = a' })
+        r = cleared onward reached u n
+
+        kept_is : r ≡ changed t r.b.marks r.b.weight r.a.count u.a.to
+        kept_is = kept onward reached u n
 
         is_forward : tabled r ≡ forward (tabled t)
-        unfolding tabled cleared forward
+        unfolding tabled forward
         is_forward =
-            all_cleared onward reached b a' n start_long (goal (tabled t)) (up_to b a' n) once below goals_known in_to n (omega arith)
+            ap (up_to r.b r.a) (ap (λ (z : Graph). z.blocks) kept_is)
+            ∙ all_cleared onward reached u start_long (goal (tabled t)) (tabled u) once below (λ i l. sym (g.known i l)) (λ x. sym (in_to x)) n (omega arith)
             ∙ ap (λ (m : graph.Graph). map (cleared_block (goal (tabled t)) m) m) moved_graph
 
-        still : (m : ℕ) → get_or r.a.first m 0 + get_or r.a.count m 0 ≤ get_or a.first m 0 + get_or a.count m 0
-        unfolding cleared arms_with
-        still m = omega (arith, fewer onward reached b a' n n m)
+        still : (m : ℕ) → get_or r.a.count m 0 ≤ get_or t.a.count m 0
+        still m = fewer onward reached u n m
 
-        first_kept : (m : ℕ) → get_or r.a.first m 0 ≡ get_or a.first m 0
-        unfolding cleared arms_with
-        first_kept m = refl
+        -- r, with what stays written out
+        abbrev z : Graph
+        z = changed t r.b.marks r.b.weight r.a.count u.a.to
 
-        has_kept : (m q : ℕ) → Has r.a m q → Has a m q
-        has_kept m q h = record { from = omega (arith, h.from, first_kept m); below = omega (arith, h.below, still m) }
+        still_has : (m q : ℕ) → Has z.a m q → Has t.a m q
+        still_has m q h = record { from = h.from; below = omega (arith, h.below, still m) }
 
-        pub is_apart : Apart r
-        unfolding cleared blocks_with
-        is_apart i j l m d q x y = apart i j l m d q (has_kept (k i) q x) (has_kept (k j) q y)
+        is_apart : Apart z
+        is_apart i j l m d q x y = apart i j l m d q (still_has (k i) q x) (still_has (k j) q y)
 
-        pub is_standing : Stands numbers most_arms r (forward (tabled t))
-        unfolding cleared blocks_with arms_with
+        is_standing : Stands numbers most_arms z (forward (tabled t))
         is_standing =
-            let long = clears_long onward reached b a' n start_long n in
+            let long = cleared_long onward reached u start_long n in
             record {
-              graph_is = is_forward;
-              few = st.few;
-              below = st.below;
-              back = st.back;
-              fits = λ m. omega (arith, still m, st.fits m);
-              blocks_sized = record { place = st.blocks_sized.place; listed = st.blocks_sized.listed; marks = long.marks; ends = st.blocks_sized.ends; weight = long.weight };
+              graph_is = ap tabled (sym kept_is) ∙ is_forward;
+              few = s.stands.few;
+              below = s.stands.below;
+              back = s.stands.back;
+              fits = λ m. omega (arith, still m, s.stands.fits m);
+              blocks_sized = record { place = s.stands.blocks_sized.place; listed = s.stands.blocks_sized.listed; marks = long.marks; ends = s.stands.blocks_sized.ends; weight = long.weight };
               arms_sized =
                   record {
-                    first = st.arms_sized.first;
+                    first = s.stands.arms_sized.first;
                     count = long.count;
-                    to = turns_sized onward (goal (tabled t)) b a n apart fits known n ∙ st.arms_sized.to;
-                    args = st.arms_sized.args;
-                    weight = st.arms_sized.weight;
+                    to = turns_length onward t.b t.a fits n ∙ s.stands.arms_sized.to;
+                    args = s.stands.arms_sized.args;
+                    weight = s.stands.arms_sized.weight;
                   };
             }
 
-        pub forwards : Forwarded t r (moved_of onward b.listed b.ends a.first a.count a.to n)
-        forwards = record { stands = is_standing; moved_is = moved_count; apart = is_apart }
+        -- what the passes leave is what document 01 asks for
+        pub forwards : Forwarded t r (moved_of onward t.b t.a n)
+        forwards =
+            record {
+              stands = subst (λ (x : Graph). Stands numbers most_arms x (forward (tabled t))) (sym kept_is) is_standing;
+              kept = kept_is ∙ ap (changed t r.b.marks r.b.weight r.a.count) (sym (ap (λ (x : Graph). x.a.to) kept_is));
+              moved_is = moved_count;
+              apart = subst Apart (sym kept_is) is_apart;
+            }
 
-  -- the goals that the code finds
-  pub goals_found : (s : List ℕ) → length s ≡ blocks → (i : ℕ) → i < n → goal (tabled t) (k i) ≡ optional (get_or (goals_of (f_of b a) b.listed n s n) (k i) 0)
-  unfolding tabled
-  goals_found s sized i l =
-      goal_is t st whole (k i) (listed_in b a i n l)
-      ∙ ap optional (sym (goals_get (f_of b a) b.listed n s sized n below i l))
-
--- the tables that are left, by what clearing makes of three of them
-changed_is : (t : Graph) (onward reached to marks weight count : List ℕ) → clearing marks weight count ≡ clears_of onward reached t.b.listed (clearing t.b.marks t.b.weight t.a.count) t.blocks
-    → changed t marks weight count to ≡ cleared onward reached (record { blocks = t.blocks; arms = t.arms; b = t.b; a = with_to t.a to })
-unfolding cleared clearable blocks_with arms_with
-changed_is t onward reached to marks weight count e = ap (λ (s : Cleared). changed t s.marks s.weight s.count to) e
-
--- what the passes leave is what document 01 asks for
-pub all_passes : (t : Graph) (st : Stands numbers most_arms t (tabled t)) (whole : Whole (tabled t)) → Apart t
-    → (s onward to reached marks weight count : List ℕ) (moved : ℕ)
-    → length s ≡ blocks
-    → onward ≡ goals_of (f_of t.b t.a) t.b.listed t.blocks s t.blocks
-    → to ≡ turns_of onward t.b.listed t.b.ends t.a.first t.a.count t.a.to t.blocks
-    → moved ≡ moved_of onward t.b.listed t.b.ends t.a.first t.a.count t.a.to t.blocks
-    → reached ≡ reached_of t.b.listed t.a.first t.a.count to (replicate blocks 0) t.blocks
-    → clearing marks weight count ≡ clears_of onward reached t.b.listed (clearing t.b.marks t.b.weight t.a.count) t.blocks
-    → Forwarded t (changed t marks weight count to) moved
-all_passes t st whole apart s onward to reached marks weight count moved sized eo et em er eg =
-    let to' = turns_of onward t.b.listed t.b.ends t.a.first t.a.count t.a.to t.blocks in
-    let known : (i : ℕ) → i < t.blocks → goal (tabled t) (get_or t.b.listed i 0) ≡ optional (get_or onward (get_or t.b.listed i 0) 0) =
-    λ i l. goals_found t st whole s sized i l ∙ ap (λ (x : List ℕ). optional (get_or x (get_or t.b.listed i 0) 0)) (sym eo) in
-    let again : reached ≡ reached_of t.b.listed t.a.first t.a.count to' (replicate blocks 0) t.blocks =
-    er ∙ ap (λ (x : List ℕ). reached_of t.b.listed t.a.first t.a.count x (replicate blocks 0) t.blocks) et in
-    let in_to : (x : ℕ) → entered (up_to t.b (with_to t.a to') t.blocks) x ≡ not (eqb (get_or reached x 0) 0) =
-    λ x. entered_is t.b (with_to t.a to') t.blocks (sure_moved t st whole onward) x ∙ ap (λ (l : List ℕ). not (eqb (get_or l x 0) 0)) (sym again) in
-    let graph = ap (changed t marks weight count) et ∙ changed_is t onward reached to' marks weight count eg in
-    subst (λ (x : Graph). Forwarded t x moved) (sym graph)
-    (subst (Forwarded t (cleared onward reached (record { blocks = t.blocks; arms = t.arms; b = t.b; a = with_to t.a to' }))) (sym em) (forwards t st whole onward known apart reached in_to))
+-- what is left can be lent again
+pub forwarded_sound : (t v : Graph) (moved : ℕ) → Sound t → Forwarded t v moved → Sound v
+forwarded_sound t v moved s f =
+    record {
+      stands = rw f.stands.graph_is f.stands;
+      whole = subst Whole (sym f.stands.graph_is) (forward_whole (tabled t) s.whole);
+    }

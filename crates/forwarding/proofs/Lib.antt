@@ -1,9 +1,7 @@
-pub mod StepLaws
-pub mod ClearSteps
 pub mod GoalLaws
+pub mod StepLaws
 pub mod ArmMoves
-pub mod BlockMoves
 pub mod ReachLaws
+pub mod BlockMoves
 pub mod ClearLaws
 pub mod ForwardLaws
-pub mod LentLaws

@@ -1,74 +1,36 @@
 // Arms to blocks that only pass control on go where those lead.
 #![tactic(auto)]
 
-ghost use Rattle.std.specs.Prelude.{◌≡◌, ℕ, suc, ◌+◌, ◌≤◌, ◌<◌, get_or};
+ghost use Rattle.std.specs.Prelude.{◌≡◌, ℕ, ◌+◌, ◌≤◌, ◌<◌, false, get_or, EachIndex};
 ghost use Rattle.limits.specs.Limits.{blocks, arms};
-ghost use Rattle.rules.specs.Graph.{is_dead, has_parameters, is_named, is_addressed};
-ghost use Rattle.forwarding.specs.Forwards.{Forwardable, Forwards};
-ghost use Rattle.forwarding.specs.Steps.{ours_of, plain, passing, through_of, chain, Safe, goal_of, goals_of, goes_to, hop_of, differ, turn_of, move_of, turns_of, moved_of, reach_of, reached_of, useless_of, dead_of, clearing, clears_of, FirstIn, Sure};
+ghost use Rattle.rules.specs.Graph.{numbers_of};
+ghost use Rattle.rules.specs.Forward.{through, leaves_at, goal, entered};
+ghost use Rattle.rules.proofs.Membership.{In};
+ghost use Rattle.records.specs.Tables.{block_at, tabled, Apart, ArmsWithin, Sound};
+ghost use Rattle.forwarding.specs.Forwards.{Forwarded};
+ghost use Rattle.forwarding.specs.Steps.{passing, plain, ours_of, Goals, hop_of, differ, differing, turn_of, moved_of, turned, Reached, Leads, useless_of, dead_of, cleared};
 
-use limits::{ARMS, BLOCKS};
-use records::faults;
-
-// ---- tables
-
-fn at_block(table: &[u16; BLOCKS], n: usize) -> usize
-    requires { n < blocks }
-    ensures { result ≡ get_or table.now n 0 }
-{
-    lists::wide(table[n])
-}
-
-fn at_arm(table: &[u16; ARMS], q: usize) -> usize
-    requires { q < arms }
-    ensures { result ≡ get_or table.now q 0 }
-{
-    lists::wide(table[q])
-}
+use limits::BLOCKS;
+use records::bits::{ADDRESSED, DEAD, NAMED, PARAMETERS, has_mark};
+use records::{Arms, Blocks, Graph, faults};
 
 // ---- marks
 
-fn is_dead(marks: u8) -> bool
-    ensures { result ≡ is_dead marks }
+// No mark that keeps a block: not the entry, no dead end, no parameters, no name.
+#[tactic(auto, unfolding(crate::specs::Steps::plain, rules::specs::Graph::is_dead, rules::specs::Graph::has_parameters, rules::specs::Graph::is_named))]
+fn plain_marks(marks: u8) -> bool
+    ensures { result ≡ plain marks }
 {
-    marks / 4 % 2 == 1
-}
-
-fn has_parameters(marks: u8) -> bool
-    ensures { result ≡ has_parameters marks }
-{
-    marks / 8 % 2 == 1
-}
-
-fn is_named(marks: u8) -> bool
-    ensures { result ≡ is_named marks }
-{
-    marks / 16 % 2 == 1
-}
-
-fn is_addressed(marks: u8) -> bool
-    ensures { result ≡ is_addressed marks }
-{
-    marks / 32 % 2 == 1
+    !faults::is_entry(marks)
+        && !has_mark(marks, DEAD)
+        && !has_mark(marks, PARAMETERS)
+        && !has_mark(marks, NAMED)
 }
 
 // ---- goals
 
-// No mark that keeps a block: not the entry, no dead end, no parameters, no name.
-fn plain_marks(marks: u8) -> bool
-    ensures { result ≡ plain marks }
-{
-    if faults::is_entry(marks) {
-        return false;
-    }
-    if is_dead(marks) {
-        return false;
-    }
-    if has_parameters(marks) {
-        return false;
-    }
-    !is_named(marks)
-}
+// Where arms to a block may go instead, by its number.
+type Onward = [Option<u16>; BLOCKS];
 
 // Whether a block is a way through: no instruction, and one arm without arguments.
 #[tactic(auto, unfolding(crate::specs::Steps::passing))]
@@ -87,313 +49,198 @@ fn passes(end: u8, marks: u8, count: usize, args: u8) -> bool
     plain_marks(marks)
 }
 
-// Where block n leads, BLOCKS if it is no way through.
-fn through<'a>(
-    ends: &'a [u8; BLOCKS],
-    marks: &'a [u8; BLOCKS],
-    first: &'a [u16; BLOCKS],
-    count: &'a [u16; BLOCKS],
-    to: &'a [u16; ARMS],
-    args: &'a [u8; ARMS],
-    n: usize,
-) -> usize
-    requires { (n < blocks) × FirstIn first.now }
-    ensures { result ≡ through_of ends.now marks.now first.now count.now to.now args.now n }
+// Where block n leads, if it is a way through.
+#[tactic(auto, using(crate::proofs::GoalLaws::way_is))]
+fn through(b: &Blocks, a: &Arms, n: u16) -> Option<u16>
+    ensures { result ≡ through (block_at b.now a.now n) }
 {
-    let q = at_block(first, n);
-    if passes(ends[n], marks[n], at_block(count, n), args[q]) {
-        return at_arm(to, q);
+    let q = lists::at(&a.first, n, 0);
+    if passes(
+        b.end_of(n),
+        b.marks_of(n),
+        a.count_of(n),
+        lists::at(&a.args, q, 0),
+    ) {
+        return Some(lists::at(&a.to, q, 0));
     }
-    BLOCKS
+    None
 }
 
-// The first block from `start` on that is no way through, BLOCKS if there is none along that many arms.
-fn leaves_at<'a>(
-    ends: &'a [u8; BLOCKS],
-    marks: &'a [u8; BLOCKS],
-    first: &'a [u16; BLOCKS],
-    count: &'a [u16; BLOCKS],
-    to: &'a [u16; ARMS],
-    args: &'a [u8; ARMS],
-    start: usize,
-    steps: usize,
-) -> usize
-    requires { FirstIn first.now × Safe (through_of ends.now marks.now first.now count.now to.now args.now) steps start }
-    ensures { result ≡ chain (through_of ends.now marks.now first.now count.now to.now args.now) steps start }
+// The first block from `start` on that is no way through, if there is one along that many arms.
+#[tactic(auto, using(crate::proofs::GoalLaws::chain_steps), unfolding(rules::specs::Forward::leaves_at))]
+fn leaves_at(g: &Graph, start: u16, steps: usize) -> Option<u16>
+    requires { Sound g.now × In start (numbers_of (tabled g.now)) }
+    ensures { result ≡ leaves_at (tabled g.now) steps start }
 {
-    let mut at: usize = start;
-    let mut left: usize = steps;
-    while 0 < left {
-        let next = through(ends, marks, first, count, to, args, at);
-        if next == BLOCKS {
-            return at;
-        }
+    let mut at = start;
+    for _left in (0..steps).rev() {
+        let Some(next) = through(&g.b, &g.a, at) else {
+            return Some(at);
+        };
         at = next;
-        left = left - 1;
     }
-    BLOCKS
+    None
 }
 
-// Where arms to block n may go instead, BLOCKS for nowhere: a chain leaves within as many steps as there are blocks.
-fn goal<'a>(
-    ends: &'a [u8; BLOCKS],
-    marks: &'a [u8; BLOCKS],
-    first: &'a [u16; BLOCKS],
-    count: &'a [u16; BLOCKS],
-    to: &'a [u16; ARMS],
-    args: &'a [u8; ARMS],
-    n: usize,
-    steps: usize,
-) -> usize
-    requires { FirstIn first.now × Safe (through_of ends.now marks.now first.now count.now to.now args.now) (suc steps) n }
-    ensures { result ≡ goal_of (through_of ends.now marks.now first.now count.now to.now args.now) steps n }
+// Where arms to block n may go instead: a chain leaves within as many steps as there are blocks.
+#[tactic(auto, using(crate::proofs::GoalLaws::chain_steps))]
+fn goal(g: &Graph, n: u16) -> Option<u16>
+    requires { Sound g.now × In n (numbers_of (tabled g.now)) }
+    ensures { result ≡ goal (tabled g.now) n }
 {
-    let next = through(ends, marks, first, count, to, args, n);
-    if next == BLOCKS {
-        return BLOCKS;
-    }
-    leaves_at(ends, marks, first, count, to, args, next, steps)
+    let next = through(&g.b, &g.a, n)?;
+    leaves_at(g, next, g.blocks)
 }
 
-// The goals of the n listed blocks, by number.
-fn goals<'a>(
-    listed: &'a [u16; BLOCKS],
-    ends: &'a [u8; BLOCKS],
-    marks: &'a [u8; BLOCKS],
-    first: &'a [u16; BLOCKS],
-    count: &'a [u16; BLOCKS],
-    to: &'a [u16; ARMS],
-    args: &'a [u8; ARMS],
-    n: usize,
-    onward: &mut [u16; BLOCKS],
-)
-    requires { (n ≤ blocks) × FirstIn first.now × ((i : ℕ) → i < n → Safe (through_of ends.now marks.now first.now count.now to.now args.now) (suc n) (get_or listed.now i 0)) }
-    ensures { onward.new ≡ goals_of (through_of ends.now marks.now first.now count.now to.now args.now) listed.now n onward.old n }
+// The goals of all listed blocks.
+fn goals(g: &Graph) -> Onward
+    requires { Sound g.now }
+    ensures { Goals g.now result g.now.blocks }
 {
-    let mut i: usize = 0;
-    while i < n {
-        let k = at_block(listed, i);
-        let m = goal(ends, marks, first, count, to, args, k, n);
-        onward[k] = m as u16;
-        i = i + 1;
+    let mut onward = [None; BLOCKS];
+    for i in 0..g.blocks {
+        let k = g.b.listed[i];
+        onward[k as usize] = goal(g, k);
     }
+    onward
 }
 
 // ---- moves
 
 // Whether a block's arms can be sent elsewhere by rewriting them alone.
+#[tactic(auto, unfolding(crate::specs::Steps::ours_of))]
 fn ours(end: u8, count: usize) -> bool
     ensures { result ≡ ours_of end count }
 {
-    if count == 0 {
-        return false;
-    }
-    if end == 3 {
-        return true;
-    }
-    if count == 1 {
-        return end <= 2;
-    }
-    if count == 2 {
-        return end == 2;
-    }
-    false
+    count == 1 && end <= 2 || count == 2 && end == 2 || 1 <= count && end == 3
 }
 
-// Whether one of `count` arms from `first` on goes to block m.
-fn goes_to(to: &[u16; ARMS], first: usize, count: usize, m: usize) -> bool
-    requires { first + count ≤ arms }
-    ensures { result ≡ goes_to to.now first count m }
+// Where an arm to block `here` goes on to: its goal, unless one of its block's arms `to` goes there already.
+#[tactic(auto, unfolding(crate::specs::Steps::hop_of))]
+fn hop(onward: &Onward, to: &[u16], here: u16) -> u16
+    ensures { result ≡ hop_of onward.now to.now here }
 {
-    let mut q: usize = first;
-    let mut left: usize = count;
-    while 0 < left {
-        if at_arm(to, q) == m {
-            return true;
-        }
-        q = q + 1;
-        left = left - 1;
-    }
-    false
-}
-
-// Where arm q goes on to: the goal of its target, unless one of its block's arms goes there already.
-fn hop(onward: &[u16; BLOCKS], to: &[u16; ARMS], first: usize, count: usize, q: usize) -> usize
-    requires { (first + count ≤ arms) × (q < arms) × (get_or to.now q 0 < blocks) }
-    ensures { result ≡ hop_of onward.now to.now first count q }
-{
-    let here = at_arm(to, q);
-    let m = at_block(onward, here);
-    if BLOCKS <= m {
+    let Some(m) = lists::at(onward, here, None) else {
         return here;
-    }
-    if goes_to(to, first, count, m) {
+    };
+    if to.contains(&m) {
         return here;
     }
     m
 }
 
-fn changed(here: usize, next: usize) -> usize
+#[tactic(auto, unfolding(crate::specs::Steps::differ))]
+fn changed(here: u16, next: u16) -> usize
     ensures { result ≡ differ here next }
 {
     if here == next { 0 } else { 1 }
 }
 
-// The `count` arms from `first` on that leave a block with this end, each in turn; how many moved.
-fn move_block(
-    onward: &[u16; BLOCKS],
-    end: u8,
-    first: usize,
-    count: usize,
-    to: &mut [u16; ARMS],
-) -> usize
-    requires { (first + count ≤ arms) × ((j : ℕ) → j < count → get_or to.old (first + j) 0 < blocks) }
-    ensures { (result ≡ move_of onward.now end first count to.old) × (to.new ≡ turn_of onward.now end first count to.old) }
+// The arms `to` that leave a block with this end, each in turn; how many moved.
+fn move_block(onward: &Onward, end: u8, to: &mut [u16]) -> usize
+    ensures { (result ≡ differing to.old to.new) × (to.new ≡ turn_of onward.now end to.old) }
 {
-    if !ours(end, count) {
+    if !ours(end, to.len()) {
         return 0;
     }
-    let mut moved: usize = 0;
-    let mut j: usize = 0;
-    while j < count {
-        let q = first + j;
-        let here = at_arm(to, q);
-        let next = hop(onward, to, first, count, q);
-        to[q] = next as u16;
-        moved = moved + changed(here, next);
-        j = j + 1;
+    let mut moved = 0;
+    for j in 0..to.len() {
+        let here = to[j];
+        let next = hop(onward, to, here);
+        to[j] = next;
+        moved += changed(here, next);
     }
     moved
 }
 
-// The arms of the n listed blocks, block by block; how many moved.
-fn move_arms<'a>(
-    listed: &'a [u16; BLOCKS],
-    ends: &'a [u8; BLOCKS],
-    first: &'a [u16; BLOCKS],
-    count: &'a [u16; BLOCKS],
-    onward: &'a [u16; BLOCKS],
-    n: usize,
-    to: &mut [u16; ARMS],
-) -> usize
-    requires { Sure listed.now first.now count.now to.old n }
-    ensures { (result ≡ moved_of onward.now listed.now ends.now first.now count.now to.old n) × (to.new ≡ turns_of onward.now listed.now ends.now first.now count.now to.old n) }
+// The arms of all blocks, block by block; how many moved.
+#[tactic(auto, using(crate::proofs::StepLaws::few_moves), unfolding(crate::specs::Steps::turns_of, crate::specs::Steps::moved_of))]
+fn move_arms(onward: &Onward, g: &mut Graph) -> usize
+    requires { (g.old.blocks ≤ blocks) × ArmsWithin g.old.a arms }
+    ensures { (result ≡ moved_of onward.now g.old.b g.old.a g.old.blocks) × (g.new ≡ turned onward.now g.old g.old.blocks) }
 {
-    let mut moved: usize = 0;
-    let mut i: usize = 0;
-    while i < n {
-        let k = at_block(listed, i);
-        let f = at_block(first, k);
-        let c = at_block(count, k);
-        moved = moved + move_block(onward, ends[k], f, c, to);
-        i = i + 1;
+    let mut moved = 0;
+    for i in 0..g.blocks {
+        let k = g.b.listed[i];
+        let f = g.a.first_of(k);
+        let c = g.a.count_of(k);
+        moved += move_block(onward, g.b.end_of(k), &mut g.a.to[f..f + c]);
     }
     moved
 }
 
 // ---- clearing
 
-// The blocks that `count` arms from `first` on go to.
-fn reach(to: &[u16; ARMS], first: usize, count: usize, reached: &mut [u8; BLOCKS])
-    requires { (first + count ≤ arms) × ((j : ℕ) → j < count → get_or to.now (first + j) 0 < blocks) }
-    ensures { reached.new ≡ reach_of to.now first reached.old count }
+// The blocks that arms with these targets go to are reached too.
+fn reach(to: &[u16], reached: &mut [bool; BLOCKS])
+    requires { EachIndex to.now (λ j. get_or to.now j 0 < blocks) }
+    ensures { Reached to.now reached.old reached.new }
 {
-    let mut j: usize = 0;
-    while j < count {
-        let k = at_arm(to, first + j);
-        reached[k] = 1;
-        j = j + 1;
+    for &k in to {
+        reached[k as usize] = true;
     }
 }
 
-// The blocks that the arms of the n listed blocks go to.
-fn reach_all<'a>(
-    listed: &'a [u16; BLOCKS],
-    first: &'a [u16; BLOCKS],
-    count: &'a [u16; BLOCKS],
-    to: &'a [u16; ARMS],
-    n: usize,
-    reached: &mut [u8; BLOCKS],
-)
-    requires { Sure listed.now first.now count.now to.now n }
-    ensures { reached.new ≡ reached_of listed.now first.now count.now to.now reached.old n }
+// Whether an arm goes there, by block number.
+#[tactic(auto, using(crate::proofs::ReachLaws::entered_steps), unfolding(records::specs::Tables::tabled))]
+fn reach_all(g: &Graph) -> [bool; BLOCKS]
+    requires { Leads g.now }
+    ensures { (x : ℕ) → get_or result x false ≡ entered (tabled g.now) x }
 {
-    let mut i: usize = 0;
-    while i < n {
-        let k = at_block(listed, i);
-        let f = at_block(first, k);
-        let c = at_block(count, k);
-        reach(to, f, c, reached);
-        i = i + 1;
+    let mut reached = [false; BLOCKS];
+    for i in 0..g.blocks {
+        let k = g.b.listed[i];
+        let f = g.a.first_of(k);
+        reach(&g.a.to[f..f + g.a.count_of(k)], &mut reached);
     }
+    reached
 }
 
 // Whether a block is of no use any more: it has a goal, no arm in, and its address is not taken.
-fn useless(goal: usize, reached: u8, marks: u8) -> bool
+#[tactic(auto, unfolding(crate::specs::Steps::useless_of, rules::specs::Graph::is_addressed))]
+fn useless(goal: Option<u16>, reached: bool, marks: u8) -> bool
     ensures { result ≡ useless_of goal reached marks }
 {
-    if BLOCKS <= goal {
-        return false;
-    }
-    if reached != 0 {
-        return false;
-    }
-    !is_addressed(marks)
+    goal.is_some() && !reached && !has_mark(marks, ADDRESSED)
 }
 
 // The marks of a dead end.
+#[tactic(auto, unfolding(crate::specs::Steps::dead_of, rules::specs::Graph::is_dead, rules::specs::Graph::bit))]
 fn dead(marks: u8) -> u8
     ensures { result ≡ dead_of marks }
 {
-    if is_dead(marks) { marks } else { marks + 4 }
-}
-
-// The n listed blocks that are of no use any more become dead ends without arms, and weigh nothing.
-fn clear<'a>(
-    listed: &'a [u16; BLOCKS],
-    onward: &'a [u16; BLOCKS],
-    reached: &'a [u8; BLOCKS],
-    n: usize,
-    marks: &mut [u8; BLOCKS],
-    weight: &mut [u64; BLOCKS],
-    count: &mut [u16; BLOCKS],
-)
-    requires { (n ≤ blocks) × ((i : ℕ) → i < n → get_or listed.now i 0 < blocks) }
-    ensures { clearing marks.new weight.new count.new ≡ clears_of onward.now reached.now listed.now (clearing marks.old weight.old count.old) n }
-{
-    let mut i: usize = 0;
-    while i < n {
-        let k = at_block(listed, i);
-        if useless(at_block(onward, k), reached[k], marks[k]) {
-            marks[k] = dead(marks[k]);
-            weight[k] = 0;
-            count[k] = 0;
-        }
-        i = i + 1;
+    if has_mark(marks, DEAD) {
+        marks
+    } else {
+        marks + (1 << DEAD)
     }
 }
 
-// Goals are fixed first, then the arms of the n listed blocks move; last, what no arm goes to any more is cleared. How many
-// arms moved.
-pub fn forward<'a>(
-    listed: &'a [u16; BLOCKS],
-    ends: &'a [u8; BLOCKS],
-    first: &'a [u16; BLOCKS],
-    args: &'a [u8; ARMS],
-    n: usize,
-    marks: &mut [u8; BLOCKS],
-    weight: &mut [u64; BLOCKS],
-    count: &mut [u16; BLOCKS],
-    to: &mut [u16; ARMS],
-) -> usize
-    requires { Forwardable listed.now marks.old ends.now weight.old first.now count.old to.old args.now n }
-    ensures { Forwards listed.now marks.old ends.now weight.old first.now count.old to.old args.now n marks.new weight.new count.new to.new result }
+// The blocks that are of no use any more become dead ends without arms, and weigh nothing.
+#[tactic(auto, unfolding(crate::specs::Steps::cleared, crate::specs::Steps::clear_of, rules::specs::Lists::pick))]
+fn clear(onward: &Onward, reached: &[bool; BLOCKS], g: &mut Graph)
+    requires { (g.old.blocks ≤ blocks) × ((i : ℕ) → i < g.old.blocks → get_or g.old.b.listed i 0 < blocks) }
+    ensures { g.new ≡ cleared onward.now reached.now g.old g.old.blocks }
 {
-    let mut onward = [BLOCKS as u16; BLOCKS];
-    goals(listed, ends, marks, first, count, to, args, n, &mut onward);
-    let moved = move_arms(listed, ends, first, count, &onward, n, to);
-    let mut reached = [0u8; BLOCKS];
-    reach_all(listed, first, count, to, n, &mut reached);
-    clear(listed, &onward, &reached, n, marks, weight, count);
+    for i in 0..g.blocks {
+        let k = g.b.listed[i] as usize;
+        if useless(onward[k], reached[k], g.b.marks[k]) {
+            g.b.marks[k] = dead(g.b.marks[k]);
+            g.b.weight[k] = 0;
+            g.a.count[k] = 0;
+        }
+    }
+}
+
+// Goals are fixed first, then the arms move; last, what no arm goes to any more is cleared. How many arms moved.
+pub fn forward(g: &mut Graph) -> usize
+    requires sound { Sound g.old }
+    requires apart { Apart g.old }
+    ensures { Forwarded g.old g.new result }
+{
+    let onward = goals(g);
+    let moved = move_arms(&onward, g);
+    let reached = reach_all(g);
+    clear(&onward, &reached, g);
     moved
 }

@@ -1,98 +1,93 @@
 -- Tables that stand for a graph: what the code marks by them is what the rules call a head. Assumes nothing.
 use Prim.Native.Nat.{ℕ, zero, suc, ◌+◌, ◌≤◌, ◌<◌, ◌/◌, max}
 use native.Mathlib.Nat.{add-zero, add-suc, suc-add}
+use native.Mathlib.Numerals.{add-one}
 use native.Mathlib.Omega.{arith}
 use mathlib.Core.Path.{◌≡◌, refl, sym, ap, ◌∙◌, subst}
-use mathlib.Core.Bool.{Bool, true, false, ◌&&◌}
+use mathlib.Core.Bool.{Bool, ◌&&◌}
 use mathlib.Core.Logic.{inl, inr, ⊎_elim}
 use mathlib.Core.List.{List, [], ◌∷◌, ◌++◌, map}
 use lib.Dec.{T, eqb, leb, eqb→eq, leb→le, le→leb, eqb_refl}
 use lib.ListN.{length, get_or, drop, get_or-append}
 use lib.Seq.{get_or-append_seam}
-use Rattle.limits.specs.Limits.{blocks, arms}
-use Rattle.lists.proofs.Choices.{split_lt}
+use Rattle.lists.proofs.Choices.{split_lt, same_test}
 use Rattle.marks.specs.Sets.{member}
 use Rattle.rules.specs.Lists.{foldl}
 use Rattle.rules.specs.Graph as graph
 use Rattle.rules.specs.Graph.{no_block, numbers_of, targets}
 use Rattle.rules.specs.Heads.{hottest, head_floor, head_at}
-use Rattle.rules.specs.Within.{arm_total}
 use Rattle.rules.proofs.Membership.{In, and_l, and_r, and_i, or_cases, or_l, or_r}
-use Rattle.rules.proofs.Wholeness.{Whole}
 use Rattle.rules.proofs.Chains.{Chain, here, then}
 use Rattle.rules.proofs.Classes.{classes}
 use Rattle.rules.proofs.HeadsExact.{Head, heads_exact}
 use Rattle.records.specs.declared.Blocks.{Blocks}
 use Rattle.records.specs.declared.Arms.{Arms}
 use Rattle.records.specs.declared.Graph.{Graph}
-use Rattle.records.specs.Tables.{arm_at, arms_from, leaves, block_at, up_to, tabled, Stands}
+use Rattle.records.specs.Tables.{arm_at, arms_from, leaves, block_at, up_to, tabled}
 use Rattle.records.proofs.TableLaws.{up_to_length}
 use Rattle.records.proofs.StandLaws.{listed_in}
 use Rattle.cycles.specs.Pieces.{PiecesOf}
 use Rattle.cycles.proofs.InwardLaws.{Arm}
-use Rattle.cycles.proofs.StandingLaws.{stands_linkable}
-use Rattle.heads.specs.Heading.{hot_to, behind, arms_back, Tables, tables, back_to, heads, head_to, Enterable}
-
-same_test : (a b : Bool) → (T a → T b) → (T b → T a) → a ≡ b
-same_test true true f g = refl
-same_test true false f g = absurd (f tt)
-same_test false true f g = absurd (g tt)
-same_test false false f g = refl
+use Rattle.walks.specs.Walking.{Fitting}
+use Rattle.heads.specs.Heading.{behind, arms_back, back_to, heads, head_to}
 
 -- ---- what the marks mean
-
-module _ (to place piece : List ℕ) (c p q : ℕ) where
-  arms_back_lem : (n m : ℕ) → T (arms_back to place piece c p q n m) → Arm to q n m × T (behind place piece c p m)
-  unfolding arms_back
-  arms_back_lem zero m t = absurd t
-  arms_back_lem (suc n) m t =
-      ⊎_elim (λ u. let a = arms_back_lem n m u in (record { arm = a.0.arm; below = omega (arith, a.0.below); goes = a.0.goes }, a.1))
-      (λ u. (record { arm = n; below = omega arith; goes = sym (eqb→eq m (get_or to (q + n) 0) (and_l (eqb m (get_or to (q + n) 0)) (behind place piece c p m) u)) }, and_r (eqb m (get_or to (q + n) 0)) (behind place piece c p m) u))
-      (or_cases (arms_back to place piece c p q n m) (eqb m (get_or to (q + n) 0) && behind place piece c p m) t)
-
-  back_arms : (n m : ℕ) → Arm to q n m → T (behind place piece c p m) → T (arms_back to place piece c p q n m)
-  unfolding arms_back
-  back_arms zero m a t = absurd (omega (arith, a.below))
-  back_arms (suc n) m a t =
-      split_lt a.arm n
-      (λ h. or_l (arms_back to place piece c p q n m) (eqb m (get_or to (q + n) 0) && behind place piece c p m) (back_arms n m (record { arm = a.arm; below = h; goes = a.goes }) t))
-      (λ h.
-      let e : a.arm ≡ n = omega (arith, h, a.below) in
-      let g : get_or to (q + n) 0 ≡ m = ap (λ (k : ℕ). get_or to (q + k) 0) (sym e) ∙ a.goes in
-      or_r (arms_back to place piece c p q n m) (eqb m (get_or to (q + n) 0) && behind place piece c p m)
-      (and_i (eqb m (get_or to (q + n) 0)) (behind place piece c p m) (subst (λ (k : ℕ). T (eqb m k)) (sym g) (eqb_refl m)) t))
-
 -- block m is entered from behind by the block at `place`
-record From (t : Tables) (n m : ℕ) : Type 0 where
+record From (t : Graph) (piece : List ℕ) (n m : ℕ) : Type 0 where
   place : ℕ
   within : place < n
-  arm : Arm t.to (get_or t.first (get_or t.listed place 0) 0) (get_or t.count (get_or t.listed place 0) 0) m
-  back : T (behind t.place t.piece (get_or t.listed place 0) (suc place) m)
+  arm : Arm t.a.to (get_or t.a.first (get_or t.b.listed place 0) 0) (get_or t.a.count (get_or t.b.listed place 0) 0) m
+  back : T (behind t.b.place piece (get_or t.b.listed place 0) (suc place) m)
 
-module _ (t : Tables) where
+module _ (t : Graph) (piece : List ℕ) where
+  module _ (i : ℕ) where
+    abbrev c : ℕ
+    c = get_or t.b.listed i 0
+
+    abbrev goes_to : ℕ → ℕ → Bool
+    goes_to n m = eqb m (get_or t.a.to (get_or t.a.first c 0 + n) 0)
+
+    arms_back_lem : (n m : ℕ) → T (arms_back t piece i n m) → Arm t.a.to (get_or t.a.first c 0) n m × T (behind t.b.place piece c (suc i) m)
+    unfolding arms_back
+    arms_back_lem zero m u = absurd u
+    arms_back_lem (suc n) m u =
+        ⊎_elim (λ v. let a = arms_back_lem n m v in (record { arm = a.0.arm; below = omega (arith, a.0.below); goes = a.0.goes }, a.1))
+        (λ v. (record { arm = n; below = omega arith; goes = sym (eqb→eq m (get_or t.a.to (get_or t.a.first c 0 + n) 0) (and_l (goes_to n m) (behind t.b.place piece c (suc i) m) v)) }, and_r (goes_to n m) (behind t.b.place piece c (suc i) m) v))
+        (or_cases (arms_back t piece i n m) (goes_to n m && behind t.b.place piece c (suc i) m) u)
+
+    back_arms : (n m : ℕ) → Arm t.a.to (get_or t.a.first c 0) n m → T (behind t.b.place piece c (suc i) m) → T (arms_back t piece i n m)
+    unfolding arms_back
+    back_arms zero m a u = absurd (omega (arith, a.below))
+    back_arms (suc n) m a u =
+        split_lt a.arm n
+        (λ h. or_l (arms_back t piece i n m) (goes_to n m && behind t.b.place piece c (suc i) m) (back_arms n m (record { arm = a.arm; below = h; goes = a.goes }) u))
+        (λ h.
+        let e : a.arm ≡ n = omega (arith, h, a.below) in
+        let g : get_or t.a.to (get_or t.a.first c 0 + n) 0 ≡ m = ap (λ (k : ℕ). get_or t.a.to (get_or t.a.first c 0 + k) 0) (sym e) ∙ a.goes in
+        or_r (arms_back t piece i n m) (goes_to n m && behind t.b.place piece c (suc i) m)
+        (and_i (goes_to n m) (behind t.b.place piece c (suc i) m) (subst (λ (k : ℕ). T (eqb m k)) (sym g) (eqb_refl m)) u))
+
   arms_at : ℕ → ℕ → Bool
-  arms_at i m = arms_back t.to t.place t.piece (get_or t.listed i 0) (suc i) (get_or t.first (get_or t.listed i 0) 0) (get_or t.count (get_or t.listed i 0) 0) m
+  arms_at i m = arms_back t piece i (get_or t.a.count (get_or t.b.listed i 0) 0) m
 
-  back_from : (n m : ℕ) → T (back_to t n m) → From t n m
+  back_from : (n m : ℕ) → T (back_to t piece n m) → From t piece n m
   unfolding back_to arms_at
   back_from zero m u = absurd u
   back_from (suc n) m u =
       ⊎_elim (λ v. let a = back_from n m v in record { place = a.place; within = omega (arith, a.within); arm = a.arm; back = a.back })
-      (λ v.
-      let a = arms_back_lem t.to t.place t.piece (get_or t.listed n 0) (suc n) (get_or t.first (get_or t.listed n 0) 0) (get_or t.count (get_or t.listed n 0) 0) m v in
-      record { place = n; within = omega arith; arm = a.0; back = a.1 })
-      (or_cases (back_to t n m) (arms_at n m) u)
+      (λ v. let a = arms_back_lem n (get_or t.a.count (get_or t.b.listed n 0) 0) m v in record { place = n; within = omega arith; arm = a.0; back = a.1 })
+      (or_cases (back_to t piece n m) (arms_at n m) u)
 
-  from_back : (n m : ℕ) → From t n m → T (back_to t n m)
+  from_back : (n m : ℕ) → From t piece n m → T (back_to t piece n m)
   unfolding back_to arms_at
   from_back zero m a = absurd (omega (arith, a.within))
   from_back (suc n) m a =
       split_lt a.place n
-      (λ h. or_l (back_to t n m) (arms_at n m) (from_back n m (record { place = a.place; within = h; arm = a.arm; back = a.back })))
+      (λ h. or_l (back_to t piece n m) (arms_at n m) (from_back n m (record { place = a.place; within = h; arm = a.arm; back = a.back })))
       (λ h.
       let e : a.place ≡ n = omega (arith, h, a.within) in
-      or_r (back_to t n m) (arms_at n m) (subst (λ (i : ℕ). T (arms_at i m)) e
-      (back_arms t.to t.place t.piece (get_or t.listed a.place 0) (suc a.place) (get_or t.first (get_or t.listed a.place 0) 0) (get_or t.count (get_or t.listed a.place 0) 0) m a.arm a.back)))
+      or_r (back_to t piece n m) (arms_at n m) (subst (λ (i : ℕ). T (arms_at i m)) e
+      (back_arms a.place (get_or t.a.count (get_or t.b.listed a.place 0) 0) m a.arm a.back)))
 
 module _ (listed : List ℕ) (p : ℕ → Bool) where
   head_from : (n m : ℕ) → T (head_to listed p n m) → (i : ℕ) × (i < n) × (1 ≤ i) × (m ≡ get_or listed i 0) × T (p m)
@@ -153,10 +148,14 @@ module _ (b : Blocks) (a : Arms) where
       subst (λ (k : ℕ). get_or (up_to b a n ++ (block_at b a (get_or b.listed n 0) ∷ [])) k no_block ≡ block_at b a (get_or b.listed n 0)) e (get_or-append_seam (up_to b a n) (block_at b a (get_or b.listed n 0)) [] no_block)
       ∙ ap (λ (k : ℕ). block_at b a (get_or b.listed k 0)) q)
 
-  hot_is : (n : ℕ) → hottest (up_to b a n) ≡ hot_to b.listed b.weight n
-  unfolding hottest hot_to up_to foldl block_at
-  hot_is zero = refl
-  hot_is (suc n) = fold_last (up_to b a n) 0 (block_at b a (get_or b.listed n 0)) ∙ ap (λ (h : ℕ). max h (get_or b.weight (get_or b.listed n 0) 0)) (hot_is n)
+  -- the hottest, with one block more
+  pub hot_none : 0 ≡ hottest (up_to b a 0)
+  unfolding hottest up_to foldl
+  hot_none = refl
+
+  pub hot_more : (n : ℕ) → hottest (up_to b a (n + 1)) ≡ max (hottest (up_to b a n)) (get_or b.weight (get_or b.listed n 0) 0)
+  unfolding hottest up_to foldl block_at
+  hot_more n = rw add-one (fold_last (up_to b a n) 0 (block_at b a (get_or b.listed n 0)))
     where
       fold_last : (g : graph.Graph) (h : ℕ) (x : graph.Block) → foldl (λ (m : ℕ) (y : graph.Block). max m y.weight) h (g ++ (x ∷ [])) ≡ max (foldl (λ (m : ℕ) (y : graph.Block). max m y.weight) h g) x.weight
       fold_last [] h x = refl
@@ -187,32 +186,14 @@ module _ (b : Blocks) (a : Arms) where
 
 -- ---- the heads
 
-module _ (t : Graph) (s : Stands blocks arms t (tabled t)) (w : Whole (tabled t)) (piece : List ℕ) (ps : PiecesOf (tabled t) piece) where
-  abbrev T₀ : Tables
-  T₀ = tables t.b.listed t.b.place t.a.first t.a.count t.a.to piece
-
-  pub stands_enterable : arm_total (tabled t) ≤ arms → Enterable (tables t.b.listed t.b.place t.a.first t.a.count t.a.to piece) t.blocks
-  stands_enterable h =
-      let l = stands_linkable t s w h in
-      record {
-        few = s.few;
-        listed_sized = s.blocks_sized.listed;
-        place_sized = s.blocks_sized.place;
-        first_sized = s.arms_sized.first;
-        count_sized = s.arms_sized.count;
-        to_sized = s.arms_sized.to;
-        piece_sized = ps.sized;
-        fits = s.fits;
-        goes = l.goes;
-      }
-
+module _ (t : Graph) (s : Fitting t) (piece : List ℕ) (ps : PiecesOf (tabled t) piece) where
   number_in : (i : ℕ) → i < t.blocks → In (get_or t.b.listed i 0) (numbers_of (tabled t))
   unfolding tabled
   number_in i h = listed_in t.b t.a i t.blocks h
 
   -- no block stands at two places
   place_one : (i j : ℕ) → i < t.blocks → j < t.blocks → get_or t.b.listed i 0 ≡ get_or t.b.listed j 0 → i ≡ j
-  place_one i j h k e = omega (arith, sym (s.back i h) ∙ ap (λ (m : ℕ). get_or t.b.place m 0) e ∙ s.back j k)
+  place_one i j h k e = omega (arith, sym (s.stands.back i h) ∙ ap (λ (m : ℕ). get_or t.b.place m 0) e ∙ s.stands.back j k)
 
   module _ (i : ℕ) (h : i < t.blocks) where
     abbrev m : ℕ
@@ -239,7 +220,7 @@ module _ (t : Graph) (s : Stands blocks arms t (tabled t)) (w : Whole (tabled t)
         let l : r.0 < t.blocks = omega (arith, r.2, up_to_length t.b t.a t.blocks) in
         (r.0, r.1, l, r.3 ∙ block_at_lem t.b t.a t.blocks r.0 l)
 
-    to_head : 1 ≤ i → head_floor (tabled t) ≤ get_or t.b.weight m 0 → From T₀ t.blocks m → Head (tabled t) i (block_at t.b t.a m)
+    to_head : 1 ≤ i → head_floor (tabled t) ≤ get_or t.b.weight m 0 → From t piece t.blocks m → Head (tabled t) i (block_at t.b t.a m)
     unfolding behind block_at
     to_head l f r =
         let c = get_or t.b.listed r.place 0 in
@@ -249,12 +230,12 @@ module _ (t : Graph) (s : Stands blocks arms t (tabled t)) (w : Whole (tabled t)
           later = l;
           hot = f;
           tail = block_at t.b t.a c;
-          place = block_in r.place (omega (arith, p, s.back i h)) r.within;
+          place = block_in r.place (omega (arith, p, s.stands.back i h)) r.within;
           arm = target_in t.b t.a c m r.arm;
-          loop = ((classes (tabled t) w m c (number_in i h) (number_in r.place r.within)).0 ((ps.exact m c (number_in i h) (number_in r.place r.within)).0 (eqb→eq (get_or piece m 0) (get_or piece c 0) q))).0;
+          loop = ((classes (tabled t) s.whole m c (number_in i h) (number_in r.place r.within)).0 ((ps.exact m c (number_in i h) (number_in r.place r.within)).0 (eqb→eq (get_or piece m 0) (get_or piece c 0) q))).0;
         }
 
-    from_head_at : Head (tabled t) i (block_at t.b t.a m) → (1 ≤ i) × (head_floor (tabled t) ≤ get_or t.b.weight m 0) × From T₀ t.blocks m
+    from_head_at : Head (tabled t) i (block_at t.b t.a m) → (1 ≤ i) × (head_floor (tabled t) ≤ get_or t.b.weight m 0) × From t piece t.blocks m
     unfolding behind block_at
     from_head_at d =
         let r = in_block d.tail d.place in
@@ -264,23 +245,22 @@ module _ (t : Graph) (s : Stands blocks arms t (tabled t)) (w : Whole (tabled t)
         let number : d.tail.number ≡ c = ap (λ (x : graph.Block). x.number) r.3 in
         let there : Chain (tabled t) m c = subst (Chain (tabled t) m) number d.loop in
         let back : Chain (tabled t) c m = then (here refl) d.tail (drop_in (tabled t) i d.tail d.place) number d.arm in
-        let e = (ps.exact m c (number_in i h) (number_in j r.2)).1 ((classes (tabled t) w m c (number_in i h) (number_in j r.2)).1 (there, back)) in (
+        let e = (ps.exact m c (number_in i h) (number_in j r.2)).1 ((classes (tabled t) s.whole m c (number_in i h) (number_in j r.2)).1 (there, back)) in (
           d.later,
           d.hot,
           record {
             place = j;
             within = r.2;
             arm = in_target t.b t.a c m arm;
-            back = and_i (leb (get_or t.b.place m 0) (suc j)) (eqb (get_or piece m 0) (get_or piece c 0)) (le→leb (get_or t.b.place m 0) (suc j) (omega (arith, r.1, s.back i h))) (subst (λ (z : ℕ). T (eqb (get_or piece m 0) z)) e (eqb_refl (get_or piece m 0)));
+            back = and_i (leb (get_or t.b.place m 0) (suc j)) (eqb (get_or piece m 0) (get_or piece c 0)) (le→leb (get_or t.b.place m 0) (suc j) (omega (arith, r.1, s.stands.back i h))) (subst (λ (z : ℕ). T (eqb (get_or piece m 0) z)) e (eqb_refl (get_or piece m 0)));
           },
         )
 
   -- THE THEOREM
-  module _ (back : List ℕ) (floor : ℕ) (marked : (m : ℕ) → member back m ≡ back_to (tables t.b.listed t.b.place t.a.first t.a.count t.a.to piece) t.blocks m)
-      (hot : ℕ) (is_hot : hot ≡ hot_to t.b.listed t.b.weight t.blocks) (is_floor : floor ≡ hot / 100) where
+  module _ (back : List ℕ) (floor : ℕ) (marked : (m : ℕ) → member back m ≡ back_to t piece t.blocks m) (is_floor : floor ≡ hottest (tabled t) / 100) where
     floor_is : head_floor (tabled t) ≡ floor
-    unfolding head_floor tabled
-    floor_is = ap (λ (x : ℕ). x / 100) (hot_is t.b t.a t.blocks ∙ sym is_hot) ∙ sym is_floor
+    unfolding head_floor
+    floor_is = sym is_floor
 
     pub head_exact : (i : ℕ) → i < t.blocks → head_to t.b.listed (heads t.b.weight back floor) t.blocks (get_or t.b.listed i 0) ≡ head_at (tabled t) i
     unfolding heads
@@ -292,10 +272,10 @@ module _ (t : Graph) (s : Stands blocks arms t (tabled t)) (w : Whole (tabled t)
             let e = place_one i r.0 h r.1 r.3 in
             let f = leb→le floor (get_or t.b.weight (m i h) 0) (and_l (leb floor (get_or t.b.weight (m i h) 0)) (member back (m i h)) r.4) in
             let k = and_r (leb floor (get_or t.b.weight (m i h) 0)) (member back (m i h)) r.4 in
-            (heads_exact (tabled t) w i (long i h)).1 (subst (Head (tabled t) i) (sym (at_is i h)) (to_head i h (omega (arith, r.2, e)) (omega (arith, f, floor_is)) (back_from T₀ t.blocks (m i h) (subst T (marked (m i h)) k))))
+            (heads_exact (tabled t) s.whole i (long i h)).1 (subst (Head (tabled t) i) (sym (at_is i h)) (to_head i h (omega (arith, r.2, e)) (omega (arith, f, floor_is)) (back_from t piece t.blocks (m i h) (subst T (marked (m i h)) k))))
 
         from : T (head_at (tabled t) i) → T (head_to t.b.listed (heads t.b.weight back floor) t.blocks (m i h))
         from u =
-            let r = from_head_at i h (subst (Head (tabled t) i) (at_is i h) ((heads_exact (tabled t) w i (long i h)).0 u)) in
+            let r = from_head_at i h (subst (Head (tabled t) i) (at_is i h) ((heads_exact (tabled t) s.whole i (long i h)).0 u)) in
             from_head t.b.listed (heads t.b.weight back floor) t.blocks i (m i h) h r.0 refl
-            (and_i (leb floor (get_or t.b.weight (m i h) 0)) (member back (m i h)) (le→leb floor (get_or t.b.weight (m i h) 0) (omega (arith, r.1, floor_is))) (subst T (sym (marked (m i h))) (from_back T₀ t.blocks (m i h) r.2)))
+            (and_i (leb floor (get_or t.b.weight (m i h) 0)) (member back (m i h)) (le→leb floor (get_or t.b.weight (m i h) 0) (omega (arith, r.1, floor_is))) (subst T (sym (marked (m i h))) (from_back t piece t.blocks (m i h) r.2)))

@@ -1,3 +1,2 @@
 pub mod MarkLaws
 pub mod HeadLaws
-pub mod LentLaws

@@ -1,15 +1,14 @@
 // A laid graph written as records: its places, then the arms of each in that order.
 #![tactic(auto)]
 
-ghost use Rattle.std.specs.Prelude.{◌≡◌, cond, ◌++◌, ◌+◌, ◌*◌, ◌≤◌, ◌<◌, eqb, leb, length, drop};
+ghost use Rattle.std.specs.Prelude.{◌≡◌, cond, ◌++◌, ◌+◌, ◌*◌, ◌<◌, eqb, leb, length, drop};
 ghost use Rattle.limits.specs.Limits.{size, numbers, marks_below, blocks};
-ghost use Rattle.marks.specs.Sets.{room};
-ghost use Rattle.rules.specs.Laid.{laid_bytes};
-ghost use Rattle.records.specs.Tables.{only_blocks, arm_tables};
-ghost use Rattle.exits.specs.Lays.{places_to};
-ghost use Rattle.laid.specs.Written.{records_to, Small, HeadsOf, Writable};
+ghost use Rattle.exits.specs.Lays.{split_number};
+ghost use Rattle.laid.specs.Written.{records_to, laid_file, HeadsOf, Writable};
 
-use limits::{ARMS, BLOCKS, MARKS, NUMBERS, RECORD};
+use exits::Laid;
+use limits::{MARKS, NUMBERS, RECORD};
+use marks::Set;
 use records::fields;
 
 // "kind 3 for a bridge": bridges are numbered past the blocks.
@@ -28,67 +27,45 @@ fn head_marks(marks: u8, head: bool) -> u8
 }
 
 // "byte 4 = 1 on the cold part's first block"
-fn begins_cold(i: usize, split: usize) -> u8
-    ensures { result ≡ cond (eqb i split) 1 0 }
+#[tactic(auto, unfolding(exits::specs::Lays::split_number))]
+fn begins_cold(i: usize, split: Option<usize>) -> u8
+    requires { i < blocks }
+    ensures { result ≡ cond (eqb i (split_number split)) 1 0 }
 {
-    if i == split { 1 } else { 0 }
+    u8::from(split == Some(i))
 }
 
-// The records of the first n places.
-fn put_places<'a>(
-    listed: &'a [u16; BLOCKS],
-    marks: &'a [u8; BLOCKS],
-    ends: &'a [u8; BLOCKS],
-    weight: &'a [u64; BLOCKS],
-    exits: &'a [u8; BLOCKS],
-    heads: &'a [u8; marks::ROOM],
-    n: usize,
-    split: usize,
-    out: &mut [u8],
-)
-    requires n_le_blocks { (n ≤ blocks) × (length marks.now ≡ blocks) × (length ends.now ≡ blocks) × (length weight.now ≡ blocks) × (length exits.now ≡ blocks) × (length heads.now ≡ room) }
-    requires small { Small (only_blocks listed.now marks.now ends.now weight.now) n }
-    requires n_in_bounds { size * n ≤ length out.old }
-    ensures { out.new ≡ records_to (only_blocks listed.now marks.now ends.now weight.now) exits.now heads.now split n ++ drop (size * n) out.old }
+// The records of the places.
+fn put_places(l: &Laid, heads: &Set, out: &mut [u8])
+    requires { Writable l.now (length out.old) }
+    ensures { out.new ≡ records_to l.now heads.now l.now.graph.blocks ++ drop (size * l.now.graph.blocks) out.old }
 {
-    let mut i: usize = 0;
-    while i < n {
-        let k = listed[i];
+    let b = &l.graph.b;
+    for i in 0..l.graph.blocks {
+        let n = b.listed[i];
+        let marks = head_marks(b.marks_of(n), marks::is_marked(heads, n));
+        let exit = lists::at(&l.exits, n, 0);
+        let head = [
+            kind(n),
+            (n % 256) as u8,
+            marks,
+            b.end_of(n),
+            begins_cold(i, l.split),
+            exit,
+            0,
+            0,
+        ];
         let at = RECORD * i;
-        fields::encode(
-            &mut out[at..at + RECORD],
-            kind(k),
-            (k % 256) as u8,
-            head_marks(lists::byte_of(marks, k), marks::is_marked(heads, k)),
-            lists::byte_of(ends, k),
-            begins_cold(i, split),
-            lists::byte_of(exits, k),
-            lists::weight_of(weight, k),
-        );
-        i = i + 1;
+        fields::encode(&mut out[at..at + RECORD], head, b.weight_of(n));
     }
 }
 
 // The file of what is laid, at the front of the room; the rest stays.
-pub fn write<'a>(
-    listed: &'a [u16; BLOCKS],
-    marks: &'a [u8; BLOCKS],
-    ends: &'a [u8; BLOCKS],
-    weight: &'a [u64; BLOCKS],
-    exits: &'a [u8; BLOCKS],
-    heads: &'a [u8; marks::ROOM],
-    first: &'a [u16; BLOCKS],
-    count: &'a [u16; BLOCKS],
-    to: &'a [u16; ARMS],
-    args: &'a [u8; ARMS],
-    heft: &'a [u64; ARMS],
-    n: usize,
-    split: usize,
-    out: &mut [u8],
-)
-    requires { HeadsOf (only_blocks listed.now marks.now ends.now weight.now) (arm_tables first.now count.now to.now args.now heft.now) n heads.now × Writable (only_blocks listed.now marks.now ends.now weight.now) (arm_tables first.now count.now to.now args.now heft.now) exits.now n (length out.old) }
-    ensures { out.new ≡ laid_bytes split (places_to (only_blocks listed.now marks.now ends.now weight.now) (arm_tables first.now count.now to.now args.now heft.now) exits.now n) ++ drop (length (laid_bytes split (places_to (only_blocks listed.now marks.now ends.now weight.now) (arm_tables first.now count.now to.now args.now heft.now) exits.now n))) out.old }
+pub fn write(l: &Laid, heads: &Set, out: &mut [u8])
+    requires heads { HeadsOf l.now heads.now }
+    requires room { Writable l.now (length out.old) }
+    ensures { out.new ≡ laid_file l.now ++ drop (length (laid_file l.now)) out.old }
 {
-    put_places(listed, marks, ends, weight, exits, heads, n, split, out);
-    writer::put_arms(listed, first, count, to, args, heft, n, out);
+    put_places(l, heads, out);
+    writer::put_arms(&l.graph, out);
 }

@@ -1,17 +1,17 @@
 -- The passes, one after the other: each is given what the one before made. Assumes nothing.
-use Prim.Native.Nat.{ℕ, suc, ◌+◌, ◌≤◌, ◌<◌}
+use Prim.Native.Nat.{ℕ, suc, ◌+◌, ◌-◌, ◌≤◌, ◌<◌}
 use native.Mathlib.Omega.{arith}
 use mathlib.Core.Path.{◌≡◌, refl, sym, ap, ap₂, ◌∙◌, subst}
-use mathlib.Core.Bool.{Bool, true, false, cond}
+use mathlib.Core.Bool.{Bool, true, false}
+use Rattle.std.specs.Prelude.{Option, Some, None, unwrap_or}
 use mathlib.Core.List.{List, [], ◌∷◌, ◌++◌, map}
 use lib.Dec.{T}
 use lib.ListN.{length, get_or, take, length-append, length-take, length-map}
 use lib.Seq.{take_at, drop_at, get_or-take}
-use borrow.Author.Tests.{lt-ltb, le-ltb}
 use Rattle.limits.specs.Limits as most
 use Rattle.lists.proofs.Choices.{split_bool}
 use Rattle.rules.specs.declared.Leaving.{Leaving}
-use Rattle.rules.specs.Lists.{any}
+use Rattle.rules.specs.Lists.{any, pick}
 use Rattle.rules.specs.Graph as graph
 use Rattle.rules.specs.Graph.{numbers_of, cold_at, is_cold}
 use Rattle.rules.specs.Within.{arm_total}
@@ -25,22 +25,17 @@ use Rattle.rules.proofs.Wholeness.{Whole, block_in}
 use Rattle.rules.proofs.Forwarded.{spread_whole}
 use Rattle.rules.proofs.Bounds.{readied_total}
 use Rattle.records.specs.declared.Blocks.{Blocks}
-use Rattle.records.specs.declared.Arms.{Arms}
 use Rattle.records.specs.declared.Graph.{Graph}
 use Rattle.records.specs.declared.Order.{Order}
-use Rattle.records.specs.Tables.{tabled, Stands, in_order}
-use Rattle.records.proofs.TableLaws.{up_to_length}
+use Rattle.records.specs.Tables.{tabled, Stands, Sound, in_order}
 use Rattle.records.proofs.StandLaws.{once_listed, in_listed, in_tables, find_in, numbers_are}
-use Rattle.traces.specs.Rounds as traces
-use Rattle.traces.specs.Rounds.{Lent}
 use Rattle.cold.specs.declared.Parts.{Parts}
-use Rattle.cold.specs.Lent as cold
-use Rattle.cold.specs.Lent.{with_marks, Spreads, SpreadTo, OverMarks, Divides, PartedBy}
-use Rattle.exits.specs.declared.Counts.{Counts}
-use Rattle.exits.specs.Lays as exits
-use Rattle.exits.specs.Lays.{lay_at, arms_to, Fits, LaidOf, Lays}
+use Rattle.cold.specs.Sides.{Divides, Parted}
+use Rattle.cold.specs.Spreading.{SpreadTo}
+use Rattle.exits.specs.declared.Laid.{Laid}
+use Rattle.exits.specs.Lays.{lay_at, arms_to, split_number, Fits, LaidOf}
 use Rattle.exits.proofs.Turns.{order_length, order_get}
-use Rattle.layout.specs.Blocks.{OrderedBy, split_at, Over, Ready, PlacedOf}
+use Rattle.layout.specs.Blocks.{split_at, Ready, PlacedOf}
 use Rattle.layout.proofs.OrderLaws.{ordered_once, get_in, once_places, partition_count, order_total}
 
 -- tables stand for their own graph
@@ -62,15 +57,16 @@ module _ (g : graph.Graph) (o : List ℕ) where
   unfolding lay warm_places
   lay_split e = rw (e, lay)
 
-module _ (g : graph.Graph) (o parts : List ℕ) (cut : ℕ) where
-  lay_warm : splits g ≡ true → cut ≡ length (warm_part g o) → cut < most.blocks → parts ≡ warm_part g o ++ cold_part g o → lay_at g parts cut ≡ lay g o
+module _ (g : graph.Graph) (o parts : List ℕ) where
+  lay_warm : splits g ≡ true → parts ≡ warm_part g o ++ cold_part g o → lay_at g parts (Some (length (warm_part g o))) ≡ lay g o
   unfolding lay_at lay warm_places
-  lay_warm e c h q =
-      rw (lt-ltb cut most.blocks h, e, lay, q, take_at (warm_part g o) (cold_part g o) cut (sym c), drop_at (warm_part g o) (cold_part g o) cut (sym c))
+  lay_warm e q =
+      let at = length (warm_part g o) in
+      rw (e, lay, q, take_at (warm_part g o) (cold_part g o) at refl, drop_at (warm_part g o) (cold_part g o) at refl)
 
-  lay_plain : splits g ≡ false → cut ≡ most.blocks → parts ≡ o → lay_at g parts cut ≡ lay g o
+  lay_plain : splits g ≡ false → parts ≡ o → lay_at g parts None ≡ lay g o
   unfolding lay_at lay
-  lay_plain e c q = rw (le-ltb cut most.blocks (omega (arith, c)), e, lay, q)
+  lay_plain e q = rw (e, lay, q)
 
 laid_append : (a b : List Place) → numbers_of (laid_graph (a ++ b)) ≡ numbers_of (laid_graph a) ++ numbers_of (laid_graph b)
 unfolding numbers_of laid_graph
@@ -126,8 +122,12 @@ module _ (t s : Graph) (stands : Stands most.numbers most.most_arms s (spread (t
     pub order_in : (n : ℕ) → In n (in_order o) → In n (numbers_of (tabled s))
     order_in n i = count→In n (numbers_of (tabled s)) (omega (arith, order_count n, In→count n (in_order o) i))
 
-    module _ (p : Order) (cut : ℕ) (pe : in_order p ≡ partition (tabled s) (in_order o)) (pl : p.len ≡ o.len)
-        (ce : cut ≡ cond (splits (tabled s)) (length (warm_part (tabled s) (in_order o))) most.blocks) (sized : length p.block ≡ most.blocks) where
+    module _ (p : Order) (cut : Option ℕ) (pe : in_order p ≡ partition (tabled s) (in_order o)) (pl : p.len ≡ o.len)
+        (ce : cut ≡ pick (splits (tabled s)) (Some (length (warm_part (tabled s) (in_order o)))) None) (sized : length p.block ≡ most.blocks) where
+      -- how many are warm
+      abbrev at : ℕ
+      at = length (warm_part (tabled s) (in_order o))
+
       parts_count : (m : ℕ) → count m (in_order p) ≡ count m (numbers_of (tabled s))
       parts_count m = ap (count m) pe ∙ partition_count (tabled s) (in_order o) m ∙ order_count m
 
@@ -141,11 +141,13 @@ module _ (t s : Graph) (stands : Stands most.numbers most.most_arms s (spread (t
       long = order_length p sized (omega (arith, few))
 
       -- where there is a split, its place is the number of the warm
-      warm : splits (tabled s) ≡ true → cut ≡ length (warm_part (tabled s) (in_order o))
-      warm e = ce ∙ ap (λ (b : Bool). cond b (length (warm_part (tabled s) (in_order o))) most.blocks) e
+      warm : splits (tabled s) ≡ true → cut ≡ Some at
+      unfolding pick
+      warm e = ce ∙ ap (λ (b : Bool). pick b (Some at) None) e
 
-      none : splits (tabled s) ≡ false → cut ≡ most.blocks
-      none e = ce ∙ ap (λ (b : Bool). cond b (length (warm_part (tabled s) (in_order o))) most.blocks) e
+      none : splits (tabled s) ≡ false → cut ≡ None
+      unfolding pick
+      none e = ce ∙ ap (λ (b : Bool). pick b (Some at) None) e
 
       parted : splits (tabled s) ≡ true → in_order p ≡ warm_part (tabled s) (in_order o) ++ cold_part (tabled s) (in_order o)
       unfolding partition
@@ -155,24 +157,23 @@ module _ (t s : Graph) (stands : Stands most.numbers most.most_arms s (spread (t
       unfolding partition
       whole_order e = pe ∙ rw (e, partition)
 
-      inside : cut < most.blocks → cut ≤ p.len
-      inside h =
+      warm_few : splits (tabled s) ≡ true → at ≤ p.len
+      warm_few e = omega (arith, long, ap length (parted e), length-append (warm_part (tabled s) (in_order o)) (cold_part (tabled s) (in_order o)))
+
+      inside : (i : ℕ) → cut ≡ Some i → i ≤ p.len
+      inside i h =
           split_bool (splits (tabled s))
-          (λ e. omega (arith, warm e, long, ap length (parted e), length-append (warm_part (tabled s) (in_order o)) (cold_part (tabled s) (in_order o))))
-          (λ e. absurd (omega (arith, h, none e)))
+          (λ e. let q : Some at ≡ Some i = sym (warm e) ∙ h in omega (arith, warm_few e, ap (λ (x : Option ℕ). unwrap_or x 0) q))
+          (λ e. absurd (let q : ◌≡◌ {A = Option ℕ} None (Some i) = sym (none e) ∙ h in cc))
 
       all_arms : arms_to s.a.count (in_order p) (length (in_order p)) ≡ arm_total (tabled s)
       unfolding tabled
       all_arms = order_total s.b s.a s.blocks (in_order p) parts_count
 
-      cut_small : splits (tabled s) ≡ true → cut < most.blocks
-      cut_small e = omega (arith, warm e, long, few, ap length (parted e), length-append (warm_part (tabled s) (in_order o)) (cold_part (tabled s) (in_order o)))
-
       pub layable : Fits s p cut
       layable = record {
         stands = stands_own stands;
         few = few;
-        sized = sized;
         orderly = record {
           few = omega (arith, long, few);
           low = λ i h. low _ (parts_in _ (get_in (in_order p) i h));
@@ -184,15 +185,15 @@ module _ (t s : Graph) (stands : Stands most.numbers most.most_arms s (spread (t
       }
 
       -- ---- laid
-      module _ (b : Blocks) (a : Arms) (x : List ℕ) (l : Counts) (h : LaidOf (tabled s) (in_order p) cut b a x l) where
-        abbrev laid : Graph
-        laid = record { blocks = l.places; arms = l.arms; b = b; a = a }
+      module _ (l : Laid) (h : LaidOf (tabled s) (in_order p) cut l) where
+        abbrev b : Blocks
+        b = l.graph.b
 
         lay_is : lay_at (tabled s) (in_order p) cut ≡ lay (tabled s) (in_order o)
         lay_is =
             split_bool (splits (tabled s))
-            (λ e. lay_warm (tabled s) (in_order o) (in_order p) cut e (warm e) (cut_small e) (parted e))
-            (λ e. lay_plain (tabled s) (in_order o) (in_order p) cut e (none e) (whole_order e))
+            (λ e. ap (lay_at (tabled s) (in_order p)) (warm e) ∙ lay_warm (tabled s) (in_order o) (in_order p) e (parted e))
+            (λ e. ap (lay_at (tabled s) (in_order p)) (none e) ∙ lay_plain (tabled s) (in_order o) (in_order p) e (whole_order e))
 
         -- some block is cold, and in the order
         module _ (e : splits (tabled s) ≡ true) where
@@ -209,20 +210,20 @@ module _ (t s : Graph) (stands : Stands most.numbers most.most_arms s (spread (t
           whole_parts : in_order p ≡ warm_part (tabled s) (in_order o) ++ (some_cold.0 ∷ some_cold.1)
           whole_parts = parted e ∙ ap (λ (k : List ℕ). warm_part (tabled s) (in_order o) ++ k) some_cold.2
 
-          within : cut < p.len
-          within = omega (arith, warm e, long, ap length whole_parts, length-append (warm_part (tabled s) (in_order o)) (some_cold.0 ∷ some_cold.1))
+          within : at < p.len
+          within = omega (arith, long, ap length whole_parts, length-append (warm_part (tabled s) (in_order o)) (some_cold.0 ∷ some_cold.1))
 
-          first_is : get_or p.block cut 0 ≡ some_cold.0
-          first_is = sym (order_get p cut within) ∙ ap₂ (λ (k : List ℕ) (i : ℕ). get_or k i 0) whole_parts (warm e) ∙ get_at (warm_part (tabled s) (in_order o)) some_cold.1 some_cold.0
+          first_is : get_or p.block at 0 ≡ some_cold.0
+          first_is = sym (order_get p at within) ∙ ap₂ (λ (k : List ℕ) (i : ℕ). get_or k i 0) whole_parts refl ∙ get_at (warm_part (tabled s) (in_order o)) some_cold.1 some_cold.0
 
           first_in : In some_cold.0 (numbers_of (tabled s))
-          first_in = subst (λ (m : ℕ). In m (numbers_of (tabled s))) (order_get p cut within ∙ first_is) (parts_in _ (get_in (in_order p) cut (omega (arith, within, long))))
+          first_in = subst (λ (m : ℕ). In m (numbers_of (tabled s))) (order_get p at within ∙ first_is) (parts_in _ (get_in (in_order p) at (omega (arith, within, long))))
 
           front : List Place
           front = lay_part (tabled s) false most.numbers (warm_part (tabled s) (in_order o))
 
           -- the numbers of the places: those of the front, and then the first cold block
-          laid_numbers : (k : List ℕ) × (numbers_of (tabled laid) ≡ numbers_of (laid_graph front) ++ (some_cold.0 ∷ k))
+          laid_numbers : (k : List ℕ) × (numbers_of (tabled l.graph) ≡ numbers_of (laid_graph front) ++ (some_cold.0 ∷ k))
           unfolding front
           laid_numbers =
               let q = part_first (tabled s) true (most.numbers + bridges front) some_cold.0 some_cold.1 (block_in (tabled s) some_cold.0 first_in).1 in (
@@ -235,132 +236,83 @@ module _ (t s : Graph) (stands : Stands most.numbers most.most_arms s (spread (t
           front_long : length (numbers_of (laid_graph front)) ≡ length front
           front_long = numbers_long front
 
-          listed_is : take l.places b.listed ≡ numbers_of (laid_graph front) ++ (some_cold.0 ∷ laid_numbers.0)
+          listed_is : take l.graph.blocks b.listed ≡ numbers_of (laid_graph front) ++ (some_cold.0 ∷ laid_numbers.0)
           unfolding tabled
-          listed_is = sym (numbers_are b a l.places (omega (arith, h.stands.few, h.stands.blocks_sized.listed))) ∙ laid_numbers.1
+          listed_is = sym (numbers_are b l.graph.a l.graph.blocks (omega (arith, h.stands.few, h.stands.blocks_sized.listed))) ∙ laid_numbers.1
 
-          in_front : length front < l.places
-          in_front = omega (arith, front_long, ap length listed_is, length-append (numbers_of (laid_graph front)) (some_cold.0 ∷ laid_numbers.0), length-take l.places b.listed)
+          in_front : length front < l.graph.blocks
+          in_front = omega (arith, front_long, ap length listed_is, length-append (numbers_of (laid_graph front)) (some_cold.0 ∷ laid_numbers.0), length-take l.graph.blocks b.listed)
 
           at_front : get_or b.listed (length front) 0 ≡ some_cold.0
           at_front =
-              sym (get_or-take l.places b.listed (length front) 0 in_front)
+              sym (get_or-take l.graph.blocks b.listed (length front) 0 in_front)
               ∙ ap₂ (λ (k : List ℕ) (i : ℕ). get_or k i 0) listed_is (sym front_long) ∙ get_at (numbers_of (laid_graph front)) laid_numbers.0 some_cold.0
 
-          placed : get_or b.place (get_or p.block cut 0) 0 ≡ suc (length front)
+          placed : get_or b.place (get_or p.block at 0) 0 ≡ suc (length front)
           placed = ap (λ (m : ℕ). get_or b.place m 0) (first_is ∙ sym at_front) ∙ h.stands.back (length front) in_front
 
-        pub split_found : cut < most.blocks → 0 < get_or b.place (get_or p.block cut 0) 0
-        split_found k = split_bool (splits (tabled s)) (λ e. omega (arith, placed e)) (λ e. absurd (omega (arith, k, none e)))
+        pub split_found : (i : ℕ) → cut ≡ Some i → (i < most.blocks) × (0 < get_or b.place (get_or p.block i 0) 0)
+        split_found i k =
+            split_bool (splits (tabled s))
+            (λ e.
+            let q : Some at ≡ Some i = sym (warm e) ∙ k in
+            subst (λ (x : ℕ). (x < most.blocks) × (0 < get_or b.place (get_or p.block x 0) 0)) (ap (λ (x : Option ℕ). unwrap_or x 0) q)
+            (omega (arith, within e, few), omega (arith, placed e)))
+            (λ e. absurd (let q : ◌≡◌ {A = Option ℕ} None (Some i) = sym (none e) ∙ k in cc))
 
-        split_is : split_at b.place p.block cut ≡ split_place (tabled s) (in_order o)
-        unfolding split_at split_place warm_places front
+        split_is : split_number (split_at b.place p.block cut) ≡ split_place (tabled s) (in_order o)
+        unfolding split_at split_place split_number warm_places front
         split_is =
             split_bool (splits (tabled s))
-            (λ e. rw (lt-ltb cut most.blocks (cut_small e), e, placed e) (omega arith))
-            (λ e. rw (le-ltb cut most.blocks (omega (arith, none e)), e))
+            (λ e. rw (warm e, e, placed e) (omega arith))
+            (λ e. rw (none e, e))
+
+        split_low : (i : ℕ) → split_at b.place p.block cut ≡ Some i → i < most.no_split
+        unfolding split_at
+        split_low i k =
+            split_bool (splits (tabled s))
+            (λ e.
+            let q : Some (get_or b.place (get_or p.block at 0) 0 - 1) ≡ Some i = sym (ap (split_at b.place p.block) (warm e)) ∙ k in
+            omega (arith, ap (λ (x : Option ℕ). unwrap_or x 0) q, placed e, in_front e, h.stands.few))
+            (λ e. absurd (let q : ◌≡◌ {A = Option ℕ} None (Some i) = sym (ap (split_at b.place p.block) (none e)) ∙ k in cc))
 
         -- THE LAW
-        pub placed_of : (split : ℕ) → split ≡ split_at b.place p.block cut → PlacedOf reorder (tabled t) b a x (record { laid = l; split = split })
-        placed_of split e =
+        pub placed_of : PlacedOf reorder (tabled t) (record l { split = split_at b.place p.block cut })
+        placed_of =
             let f : in_order o ≡ ordered reorder (spread (tabled t)) = oe ∙ ap (ordered reorder) stands.graph_is in
             let k : lay_at (tabled s) (in_order p) cut ≡ lay (spread (tabled t)) (ordered reorder (spread (tabled t))) = lay_is ∙ ap₂ lay stands.graph_is f in
             record {
               places = h.places ∙ k;
-              stands = subst (λ (y : List Place). Stands most.blocks most.arms laid (laid_graph y)) k h.stands;
+              stands = subst (λ (y : List Place). Stands most.blocks most.arms l.graph (laid_graph y)) k h.stands;
               bridged = h.bridged ∙ ap bridges k;
               total = h.total ∙ ap (λ (y : List Place). arm_total (laid_graph y)) k;
               few_arms = h.few_arms;
-              exits_sized = h.exits_sized;
-              split_is = e ∙ split_is ∙ ap₂ split_place stands.graph_is f;
+              split_is = split_is ∙ ap₂ split_place stands.graph_is f;
+              split_low = split_low;
             }
 
--- ---- the passes over lent tables, of a graph that has them; m are the marks as spreading leaves them
-pub over_length : {t : Graph} {listed marks ends weight : List ℕ} {a : Arms} {n : ℕ} → Over t listed marks ends weight a n → length (tabled t) ≡ n
-unfolding tabled
-over_length {t} e = up_to_length t.b t.a t.blocks ∙ e.blocks_is
+-- ---- the passes, one after the other; s is what spreading leaves
+module _ {t s : Graph} (r : Ready t) (sp : SpreadTo t s) where
+  pub spread_sound : Sound s
+  spread_sound = record { stands = stands_own sp.stands; whole = whole t s sp.stands r.sound.whole r.total }
 
-module _ {t : Graph} {listed marks ends weight : List ℕ} {a : Arms} {n : ℕ} (e : Over t listed marks ends weight a n) (r : Ready t) where
-  over_spread : cold.Over t listed marks a.first a.count a.to n
-  over_spread =
-      record {
-        listed_is = e.listed_is;
-        marks_is = e.marks_is;
-        first_is = ap (λ (x : Arms). x.first) e.arms_are;
-        count_is = ap (λ (x : Arms). x.count) e.arms_are;
-        to_is = ap (λ (x : Arms). x.to) e.arms_are;
-        blocks_is = e.blocks_is;
-      }
+  module _ (reorder : Bool) (o : Order) (os : (in_order o ≡ ordered reorder (tabled s)) × (o.len ≡ s.blocks)) where
+    pub can_divide : Divides s o
+    can_divide =
+        record {
+          stands = stands_own sp.stands;
+          within = order_in t s sp.stands r.sound.whole r.total reorder o os.0 os.1;
+          fits = omega (arith, os.1, sp.stands.few);
+        }
 
-  pub can_spread : Spreads listed marks a.first a.count a.to n
-  can_spread = record { graph = t; over = over_spread; stands = r.stands; whole = r.whole }
+    module _ (p : Parts) (ps : Parted s o p) (sized : length p.order.block ≡ most.blocks) where
+      pub can_lay : Fits s p.order p.split
+      can_lay = layable t s sp.stands r.sound.whole r.total reorder o os.0 os.1 p.order p.split ps.parts ps.long ps.split sized
 
-  module _ {m : List ℕ} (sp : SpreadTo listed marks a.first a.count a.to n m) where
-    abbrev s : Graph
-    s = with_marks t m
+      module _ (l : Laid) (ls : LaidOf (tabled s) (in_order p.order) p.split l) where
+        pub can_split : (i : ℕ) → p.split ≡ Some i → (i < most.blocks) × (0 < get_or l.graph.b.place (get_or p.order.block i 0) 0)
+        can_split = split_found t s sp.stands r.sound.whole r.total reorder o os.0 os.1 p.order p.split ps.parts ps.long ps.split sized l ls
 
-    spread_stands : Stands most.numbers most.most_arms s (spread (tabled t))
-    spread_stands = sp t over_spread r.stands r.whole
-
-    own : Stands most.numbers most.most_arms s (tabled s)
-    own = stands_own spread_stands
-
-    spread_whole_own : Whole (tabled s)
-    spread_whole_own = whole t s spread_stands r.whole r.total
-
-    over_order : traces.Over s listed m weight a.first a.count a.to a.weight n
-    over_order = record {
-      flows = record {
-        over = record {
-          marks_is = refl;
-          weight_is = e.weight_is;
-          first_is = over_spread.first_is;
-          count_is = over_spread.count_is;
-          to_is = over_spread.to_is;
-          heft_is = ap (λ (x : Arms). x.weight) e.arms_are;
-        };
-        stands = own;
-        whole = spread_whole_own;
-      };
-      listed_is = e.listed_is;
-      blocks_is = e.blocks_is;
-    }
-
-    over_marks : OverMarks s listed m n
-    over_marks = record { listed_is = e.listed_is; marks_is = refl; blocks_is = e.blocks_is }
-
-    over_lay : exits.Over s m ends weight a
-    over_lay = record { marks_is = refl; ends_is = e.ends_is; weight_is = e.weight_is; arms_are = e.arms_are }
-
-    pub can_order : Lent listed m weight a.first a.count a.to a.weight n
-    can_order = record { graph = s; over = over_order }
-
-    module _ (reorder : Bool) (o : Order) (os : OrderedBy reorder listed m weight a.first a.count a.to a.weight n o) where
-      order_is : (in_order o ≡ ordered reorder (tabled s)) × (o.len ≡ s.blocks)
-      order_is = os s over_order
-
-      within_own : cold.Within s o
-      within_own = order_in t s spread_stands r.whole r.total reorder o order_is.0 order_is.1
-
-      pub can_divide : Divides listed m n o
-      can_divide = record { graph = s; over = over_marks; stands = own; within = within_own; fits = omega (arith, order_is.1, r.stands.few) }
-
-      module _ (p : Parts) (ps : PartedBy listed m n o p) where
-        parts_are : cold.Parted s o p
-        parts_are = ps s over_marks own within_own
-
-        fits_own : Fits s p.order p.split
-        fits_own = layable t s spread_stands r.whole r.total reorder o order_is.0 order_is.1 p.order p.split parts_are.0.0 parts_are.0.1 parts_are.1 parts_are.0.2
-
-        pub can_lay : exits.Layable m ends weight a p.order p.split
-        can_lay = record { tables = s; over = over_lay; fits = fits_own }
-
-        module _ (b : Blocks) (c : Arms) (x : List ℕ) (l : Counts) (ls : Lays m ends weight a p.order p.split b c x l) where
-          pub can_split : (length b.place ≡ most.blocks) × (length p.order.block ≡ most.blocks) × (p.split < most.blocks → 0 < get_or b.place (get_or p.order.block p.split 0) 0)
-          can_split =
-              let h = ls s over_lay fits_own in
-              (h.stands.blocks_sized.place, parts_are.0.2, split_found t s spread_stands r.whole r.total reorder o order_is.0 order_is.1 p.order p.split parts_are.0.0 parts_are.0.1 parts_are.1 parts_are.0.2 b c x l h)
-
-          pub all_placed : (split : ℕ) → split ≡ split_at b.place p.order.block p.split → PlacedOf reorder (tabled t) b c x (record { laid = l; split = split })
-          all_placed =
-              placed_of t s spread_stands r.whole r.total reorder o order_is.0 order_is.1 p.order p.split parts_are.0.0 parts_are.0.1 parts_are.1 parts_are.0.2 b c x l (ls s over_lay fits_own)
+        pub all_placed : (x : Option ℕ) → x ≡ split_at l.graph.b.place p.order.block p.split → PlacedOf reorder (tabled t) (record l { split = x })
+        all_placed x e =
+            rw e (placed_of t s sp.stands r.sound.whole r.total reorder o os.0 os.1 p.order p.split ps.parts ps.long ps.split sized l ls)

@@ -19,15 +19,10 @@ use Rattle.rules.proofs.PlainOnce.{plain_once}
 use Rattle.rules.proofs.JoinOnce.{joined_once}
 use Rattle.records.specs.declared.Blocks.{Blocks}
 use Rattle.records.specs.declared.Arms.{Arms}
-use Rattle.records.specs.declared.Order.{Order}
-use Rattle.records.specs.Tables.{block_at, up_to, tabled}
+use Rattle.records.specs.Tables.{block_at, up_to}
 use Rattle.records.proofs.TableLaws.{leaves_count}
 use Rattle.records.proofs.StandLaws.{numbers_more}
-use Rattle.walks.specs.Lent.{Ordered}
-use Rattle.traces.specs.Rounds.{Joined}
-use Rattle.traces.proofs.JoinLaws.{walks_over}
 use Rattle.exits.specs.Lays.{arms_to}
-use Rattle.layout.specs.Blocks.{OrderedBy}
 
 -- ---- lists with each number once
 pub get_in : (l : List ℕ) (i : ℕ) → i < length l → In (get_or l i 0) l
@@ -98,15 +93,3 @@ pub order_total : (b : Blocks) (a : Arms) (n : ℕ) (o : List ℕ) → ((m : ℕ
 order_total b a n o h =
     arms_sum a.count o (length o) (omega arith) ∙ ap (sum_by (λ (m : ℕ). get_or a.count m 0)) (take_all (length o) o (omega arith))
     ∙ perm_sum (λ (m : ℕ). get_or a.count m 0) o (numbers_of (up_to b a n)) h ∙ total_sum b a n
-
--- ---- by traces, or by the walk alone
-module _ (reorder : Bool) {listed marks weight first count' to heft : List ℕ} {n : ℕ} (r : Order) where
-  pub by_traces : reorder ≡ true → Joined listed marks weight first count' to heft n r → OrderedBy reorder listed marks weight first count' to heft n r
-  unfolding ordered
-  by_traces e j t o = let z = j t o in (z.0 ∙ ap (λ (b : Bool). ordered b (tabled t)) (sym e), z.1)
-
-  pub by_walk : reorder ≡ false → Ordered listed marks first count' to n r → OrderedBy reorder listed marks weight first count' to heft n r
-  unfolding ordered
-  by_walk e w t o =
-      let z = w t (walks_over listed marks weight first count' to heft n t o) o.flows.over.marks_is o.flows.stands o.flows.whole in
-      (z.0 ∙ ap (λ (b : Bool). ordered b (tabled t)) (sym e), z.1)

@@ -10,21 +10,19 @@ use Rattle.rules.specs.Outcome.{Outcome, refused}
 use Rattle.rules.proofs.Membership.{In}
 use Rattle.rules.proofs.Wholeness.{Whole}
 use Rattle.rules.proofs.Demands.{asked}
-use Rattle.records.specs.declared.Blocks.{Blocks}
-use Rattle.records.specs.declared.Arms.{Arms}
 use Rattle.records.specs.declared.Graph.{Graph}
-use Rattle.records.specs.Tables.{tabled, Apart, Stands}
-use Rattle.forwarding.specs.Forwards as forwarding
-use Rattle.layout.specs.declared.blocks.Placed.{Placed}
-use Rattle.layout.specs.Blocks.{places_by, split_by, Over, Ready, PlacedOf}
+use Rattle.records.specs.Tables.{tabled, Stands}
+use Rattle.forwarding.specs.Forwards.{changed}
+use Rattle.exits.specs.declared.Laid.{Laid}
+use Rattle.layout.specs.Blocks.{places_by, split_by, PlacedOf}
 
 -- ---- forwarding, if it is asked for
 
--- with the tables changed to these, every t that has the others stands for what is asked of its graph
-abbrev pub ForwardsIf : Bool → List ℕ → List ℕ → List ℕ → List ℕ → List ℕ → List ℕ → List ℕ → List ℕ → ℕ → List ℕ → List ℕ → List ℕ → List ℕ → ℕ → Type 0
-ForwardsIf on listed marks ends weight first count to args n marks' weight' count' to' moved =
-    (t : Graph) → forwarding.Over t listed marks ends weight first count to args n → Stands numbers most_arms t (tabled t) → Whole (tabled t) → Apart t
-    → Stands numbers most_arms (forwarding.changed t marks' weight' count' to') (asked on (tabled t)) × (moved ≡ cond on (moves (tabled t)) 0)
+-- t' stands for what is asked of t's graph and is t but for what forwarding changes, and so many arms moved
+pub record ForwardsIf (on : Bool) (t t' : Graph) (moved : ℕ) : Type 0 where
+  pub stands : Stands numbers most_arms t' (asked on (tabled t))
+  pub kept : t' ≡ changed t t'.b.marks t'.b.weight t'.a.count t'.a.to
+  pub moved_is : moved ≡ cond on (moves (tabled t)) 0
 
 -- ---- what is laid
 
@@ -50,25 +48,13 @@ pub record Fit (reorder : Bool) (g : graph.Graph) : Type 0 where
   pub whole : Whole (laid_graph (places_by reorder g))
   pub low : (p : Place) → In p (places_by reorder g) → p.block.marks < marks_below
 
--- some t that can be laid and written has these tables
-pub record Layable (reorder : Bool) (listed marks ends weight : List ℕ) (a : Arms) (n : ℕ) : Type 0 where
-  pub graph : Graph
-  pub over : Over graph listed marks ends weight a n
-  pub ready : Ready graph
-  pub fit : Fit reorder (tabled graph)
-
--- for every such t: its graph is laid and written
-abbrev pub LaysOut : Bool → List ℕ → List ℕ → List ℕ → List ℕ → Arms → ℕ → ℕ → List ℕ → List ℕ → Answer → Type 0
-LaysOut reorder listed marks ends weight a n moved before after r =
-    (t : Graph) → Over t listed marks ends weight a n → Ready t → Fit reorder (tabled t) → Makes reorder (tabled t) moved before after r
-
--- the tables have the places of some graph that can be written
-pub record Writable (b : Blocks) (a : Arms) (exits : List ℕ) (p : Placed) : Type 0 where
+-- l has the places of some graph that can be written
+pub record Writable (l : Laid) : Type 0 where
   pub reorder : Bool
   pub graph : graph.Graph
-  pub placed : PlacedOf reorder graph b a exits p
+  pub placed : PlacedOf reorder graph l
   pub fit : Fit reorder graph
 
 -- for every such graph of n blocks: it is written
-abbrev pub Writes : Blocks → Arms → List ℕ → Placed → ℕ → ℕ → List ℕ → List ℕ → Answer → Type 0
-Writes b a exits p n moved before after r = (reorder : Bool) (g : graph.Graph) → PlacedOf reorder g b a exits p → Fit reorder g → length g ≡ n → Makes reorder g moved before after r
+abbrev pub Writes : Laid → ℕ → ℕ → List ℕ → List ℕ → Answer → Type 0
+Writes l n moved before after r = (reorder : Bool) (g : graph.Graph) → PlacedOf reorder g l → Fit reorder g → length g ≡ n → Makes reorder g moved before after r

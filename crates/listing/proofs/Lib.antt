@@ -1,6 +1,5 @@
-pub mod PutLaws
 pub mod DigitLaws
-pub mod FillLaws
-pub mod LoopLaws
+pub mod PutLaws
 pub mod LineLaws
+pub mod LoopLaws
 pub mod ListingLaws

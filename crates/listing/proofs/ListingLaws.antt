@@ -1,5 +1,5 @@
 -- The lines of the places are those of the rule. Assumes nothing.
-use Prim.Native.Nat.{ℕ, zero, suc, ◌+◌, ◌<◌}
+use Prim.Native.Nat.{ℕ, zero, suc, ◌+◌, ◌≤◌, ◌<◌}
 use native.Mathlib.Nat.{add-zero}
 use native.Mathlib.Omega.{arith}
 use mathlib.Core.Path.{◌≡◌, refl, sym, ap, ap₂, ◌∙◌}
@@ -9,16 +9,14 @@ use lib.ListN.{length, get_or, length-append}
 use Rattle.rules.specs.Graph as graph
 use Rattle.rules.specs.Exits.{Place, laid_graph}
 use Rattle.rules.specs.Heads.{head_at, looped}
-use Rattle.rules.specs.Listing.{line, letter, place_line, place_lines, split_line}
+use Rattle.rules.specs.Listing.{line, letter, place_line, place_lines}
 use Rattle.records.specs.declared.Blocks.{Blocks}
 use Rattle.records.specs.declared.Arms.{Arms}
-use Rattle.records.specs.declared.Graph.{Graph}
 use Rattle.records.specs.Tables.{block_at, tabled}
-use Rattle.exits.specs.Lays.{place_at, places_to}
+use Rattle.exits.specs.Lays.{place_at, places_to, places_of}
+use Rattle.exits.specs.declared.Laid.{Laid}
 use Rattle.exits.proofs.Finished.{places_graph}
-use Rattle.listing.specs.Put.{Put}
-use Rattle.listing.specs.Lines.{words, front_of, back_of, Shown, line_at, lines_to, Shows, listing, places_of, Prints}
-use Rattle.listing.proofs.PutLaws.{put_front, put_same}
+use Rattle.listing.specs.Lines.{words, front_of, back_of, line_at, lines_to, last_line, Shows, listing}
 
 lines_append : (g : graph.Graph) (i : ℕ) (s t : List Place) → place_lines g i (s ++ t) ≡ place_lines g i s ++ place_lines g (i + length s) t
 unfolding place_lines
@@ -40,45 +38,35 @@ line_parts : (g : graph.Graph) (b : Blocks) (a : Arms) (exits : List ℕ) (i k :
 unfolding place_line front_of back_of words line letter place_at block_at
 line_parts g b a exits i k = simp append_assoc
 
-module _ (t : Graph) (s : Shown) (n : ℕ) (w : Shows t s n) where
-  abbrev by : ℕ → ℕ → List ℕ → List ℕ → Bool → Bool → List ℕ
-  by i k weight marks head loops = front_of i k (get_or weight k 0) ++ back_of (get_or marks k 0) head loops (get_or s.exits k 0)
-
-  place_line_lem : (i : ℕ) → i < n → place_line (tabled t) i (place_at t.b t.a s.exits (get_or t.b.listed i 0)) ≡ line_at s i
+module _ (l : Laid) (heads loops : List ℕ) (w : Shows l.graph heads loops) where
+  place_line_lem : (i : ℕ) → i < l.graph.blocks → place_line (tabled l.graph) i (place_at l.graph.b l.graph.a l.exits (get_or l.graph.b.listed i 0)) ≡ line_at l heads loops i
   unfolding line_at
   place_line_lem i h =
-      let k = get_or s.listed i 0 in
-      line_parts (tabled t) t.b t.a s.exits i (get_or t.b.listed i 0)
-      ∙ ap (λ (l : List ℕ). by i (get_or l i 0) t.b.weight t.b.marks (head_at (tabled t) i) (looped (tabled t) (get_or l i 0))) w.listed_is
-      ∙ ap₂ (λ (x y : List ℕ). by i k x y (head_at (tabled t) i) (looped (tabled t) k)) w.weight_is w.marks_is
-      ∙ ap₂ (by i k s.weight s.marks) (sym (w.heads_are i h)) (sym (w.loops_are i h))
+      let n = get_or l.graph.b.listed i 0 in
+      line_parts (tabled l.graph) l.graph.b l.graph.a l.exits i n
+      ∙ ap₂ (λ (x y : Bool). front_of i n (get_or l.graph.b.weight n 0) ++ back_of (get_or l.graph.b.marks n 0) x y (get_or l.exits n 0)) (sym (w.heads_are i h)) (sym (w.loops_are i h))
 
-  place_lines_lem : (k : ℕ) → k < suc n → place_lines (tabled t) 0 (places_to t.b t.a s.exits k) ≡ lines_to s k
+  place_lines_lem : (k : ℕ) → k ≤ l.graph.blocks → place_lines (tabled l.graph) 0 (places_to l.graph.b l.graph.a l.exits k) ≡ lines_to l heads loops k
   unfolding places_to place_lines lines_to
   place_lines_lem zero h = refl
   place_lines_lem (suc k) h =
-      let l = places_to t.b t.a s.exits k in
-      let p = place_at t.b t.a s.exits (get_or t.b.listed k 0) in
-      lines_append (tabled t) 0 l (p ∷ [])
-      ∙ ap (λ (i : ℕ). place_lines (tabled t) 0 l ++ (place_line (tabled t) i p ++ [])) (zero_plus (length l) ∙ places_long t.b t.a s.exits k)
-      ∙ ap (λ (x : List ℕ). x ++ (place_line (tabled t) k p ++ [])) (place_lines_lem k (omega (arith, h)))
-      ∙ ap (λ (x : List ℕ). lines_to s k ++ x) (append-nil (place_line (tabled t) k p) ∙ place_line_lem k (omega (arith, h)))
+      let s = places_to l.graph.b l.graph.a l.exits k in
+      let p = place_at l.graph.b l.graph.a l.exits (get_or l.graph.b.listed k 0) in
+      lines_append (tabled l.graph) 0 s (p ∷ [])
+      ∙ ap (λ (i : ℕ). place_lines (tabled l.graph) 0 s ++ (place_line (tabled l.graph) i p ++ [])) (zero_plus (length s) ∙ places_long l.graph.b l.graph.a l.exits k)
+      ∙ ap (λ (x : List ℕ). x ++ (place_line (tabled l.graph) k p ++ [])) (place_lines_lem k (omega (arith, h)))
+      ∙ ap (λ (x : List ℕ). lines_to l heads loops k ++ x) (append-nil (place_line (tabled l.graph) k p) ∙ place_line_lem k (omega (arith, h)))
     where
       zero_plus : (j : ℕ) → 0 + j ≡ j
       zero_plus j = omega arith
 
-  laid_graph_lem : laid_graph (places_of t s.exits) ≡ tabled t
+  laid_graph_lem : laid_graph (places_of l) ≡ tabled l.graph
   unfolding tabled
-  laid_graph_lem = places_graph t.b t.a s.exits t.blocks
+  laid_graph_lem = places_graph l.graph.b l.graph.a l.exits l.graph.blocks
 
   -- THE LAW
-  listing_is : (split : ℕ) → lines_to s n ++ split_line split ≡ listing (places_of t s.exits) split
+  pub listing_is : lines_to l heads loops l.graph.blocks ++ last_line l.split ≡ listing (places_of l) l.split
   unfolding listing
-  listing_is split =
-      ap (λ (x : List ℕ). x ++ split_line split)
-      (sym (place_lines_lem n (omega arith))
-      ∙ ap (λ (k : ℕ). place_lines (tabled t) 0 (places_to t.b t.a s.exits k)) (sym w.blocks_is)
-      ∙ ap (λ (g : graph.Graph). place_lines g 0 (places_of t s.exits)) (sym laid_graph_lem))
-
-pub prints : (s : Shown) (n split r : ℕ) (d o : List ℕ) → Put 0 (lines_to s n ++ split_line split) d o r → Prints s n split d o r
-prints s n split r d o p t w = put_front (put_same (listing_is t s n w split) p)
+  listing_is =
+      ap (λ (x : List ℕ). x ++ last_line l.split)
+      (sym (place_lines_lem l.graph.blocks (omega arith)) ∙ ap (λ (g : graph.Graph). place_lines g 0 (places_of l)) (sym laid_graph_lem))

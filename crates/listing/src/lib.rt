@@ -4,51 +4,39 @@
 pub mod text;
 
 ghost use Rattle.std.specs.Prelude.{◌≡◌, ℕ, ◌+◌, ◌*◌, ◌≤◌, ◌<◌, length, get_or};
-ghost use Rattle.limits.specs.Limits.{blocks, line_room, text_room};
-ghost use Rattle.rules.specs.Listing.{split_line, refusal_line};
+ghost use Rattle.limits.specs.Limits.{blocks, line_room, last_room, text_room};
+ghost use Rattle.rules.specs.Faults.{said};
+ghost use Rattle.rules.specs.Listing.{refusal_line};
 ghost use Rattle.listing.specs.Put.{Put};
-ghost use Rattle.listing.specs.Lines.{front_of, back_of, shown, lines_to, Printable, Printed, Prints};
-ghost use Rattle.listing.specs.Loops.{mate_to, LoopsOf};
+ghost use Rattle.listing.specs.Lines.{front_of, back_of, lines_to, last_line, Printable, Printed, Prints};
+ghost use Rattle.listing.specs.Loops.{mate, LoopsOf};
 
-use limits::{BLOCKS, NO_SPLIT, NUMBERS};
-use text::{NEWLINE, SPACE};
+use exits::Laid;
+use limits::{BLOCKS, NUMBERS};
+use marks::Set;
+use records::Graph;
+use rules::Refusal;
+use text::{NEWLINE, SPACE, Text};
 
-// Whether another of n listed blocks is of block m's piece.
-#[tactic(auto, using(crate::proofs::LoopLaws::mate_same))]
-fn has_mate<'a>(listed: &'a [u16; BLOCKS], piece: &'a [u16; BLOCKS], n: usize, m: u16) -> bool
-    requires { (n ≤ blocks) × (length piece.now ≡ blocks) }
-    ensures { result ≡ mate_to listed.now piece.now n m }
+// Whether another block of the graph is of block m's piece.
+fn has_mate(g: &Graph, piece: &[u16; BLOCKS], m: u16) -> bool
+    requires { g.now.blocks ≤ blocks }
+    ensures { result ≡ mate g.now piece.now m }
 {
-    let own = lists::entry_of(piece, m);
-    let mut i: usize = 0;
-    while i < n {
-        let k = listed[i];
-        i = i + 1;
-        if k == m {
-            continue;
-        }
-        if lists::entry_of(piece, k) == own {
-            return true;
-        }
-    }
-    false
+    let own = lists::at(piece, m, 0);
+    g.b.listed[..g.blocks]
+        .iter()
+        .any(|&k| k != m && lists::at(piece, k, 0) == own)
 }
 
-// The blocks in loops: those whose piece has two or more of n listed blocks.
-pub fn looped<'a>(
-    listed: &'a [u16; BLOCKS],
-    piece: &'a [u16; BLOCKS],
-    n: usize,
-) -> [u8; marks::ROOM]
-    requires { (n ≤ blocks) × (length piece.now ≡ blocks) × ((i : ℕ) → i < n → get_or listed.now i 0 < blocks) }
-    ensures { LoopsOf listed.now piece.now n result }
+// The blocks in loops: those whose piece has two or more blocks.
+pub fn looped(g: &Graph, piece: &[u16; BLOCKS]) -> Set
+    requires { (g.now.blocks ≤ blocks) × ((i : ℕ) → i < g.now.blocks → get_or g.now.b.listed i 0 < blocks) }
+    ensures { LoopsOf g.now piece.now result }
 {
     let mut set = marks::none();
-    let mut i: usize = 0;
-    while i < n {
-        let m = listed[i];
-        i = i + 1;
-        if has_mate(listed, piece, n, m) {
+    for &m in &g.b.listed[..g.blocks] {
+        if has_mate(g, piece, m) {
             marks::mark(&mut set, m);
         }
     }
@@ -56,100 +44,85 @@ pub fn looped<'a>(
 }
 
 // The front of a line: a place and its block. Bridges are numbered past the blocks.
-fn put_block(out: &mut [u8], at: usize, place: usize, number: u16, weight: u64) -> usize
-    requires { at + length (front_of place number weight) ≤ length out.old }
-    ensures { Put at (front_of place number weight) out.old out.new result }
+#[tactic(auto, using(crate::proofs::LineLaws::lengths))]
+fn put_block(text: &mut Text, place: usize, number: u16, weight: u64)
+    requires { text.old.len + length (front_of place number weight) ≤ length text.old.out.now }
+    ensures { Put (front_of place number weight) text.old text.new }
 {
-    let after_place = text::put_number(out, at, place as u64, SPACE);
-    let after_kind = text::put_letter(out, after_place, NUMBERS as u16 <= number, b'+', b'B');
-    let after_number = text::put_number(out, after_kind, number as u64, SPACE);
-    text::put_number(out, after_number, weight, SPACE)
+    text.put_number(place as u64, SPACE);
+    text.put_letter(NUMBERS as u16 <= number, b'+', b'B');
+    text.put_number(number as u64, SPACE);
+    text.put_number(weight, SPACE);
 }
 
 // The back of it: how the block is laid.
-fn put_laid(out: &mut [u8], at: usize, marks: u8, head: bool, in_loop: bool, exit: u8) -> usize
-    requires { at + length (back_of marks head in_loop exit) ≤ length out.old }
-    ensures { Put at (back_of marks head in_loop exit) out.old out.new result }
+#[tactic(auto, using(crate::proofs::LineLaws::lengths))]
+fn put_laid(text: &mut Text, marks: u8, head: bool, in_loop: bool, exit: u8)
+    requires { text.old.len + length (back_of marks head in_loop exit) ≤ length text.old.out.now }
+    ensures { Put (back_of marks head in_loop exit) text.old text.new }
 {
-    let after_side = text::put_letter(out, at, cold::is_cold(marks), b'C', b'W');
-    let after_head = text::put_letter(out, after_side, head, b'H', b'-');
-    let after_loop = text::put_letter(out, after_head, in_loop, b'L', b'-');
-    text::put_number(out, after_loop, exit as u64, NEWLINE)
+    text.put_letter(cold::is_cold(marks), b'C', b'W');
+    text.put_letter(head, b'H', b'-');
+    text.put_letter(in_loop, b'L', b'-');
+    text.put_number(exit as u64, NEWLINE);
 }
 
-// The lines of the first n places.
-fn put_places<'a>(
-    listed: &'a [u16; BLOCKS],
-    marks: &'a [u8; BLOCKS],
-    weight: &'a [u64; BLOCKS],
-    exits: &'a [u8; BLOCKS],
-    heads: &'a [u8; marks::ROOM],
-    loops: &'a [u8; marks::ROOM],
-    n: usize,
-    out: &mut [u8],
-) -> usize
-    requires printable { Printable (shown listed.now marks.now weight.now exits.now heads.now loops.now) n }
-    requires n_in_bounds { line_room * n ≤ length out.old }
-    ensures upper_bound { result ≤ line_room * n }
-    ensures put { Put 0 (lines_to (shown listed.now marks.now weight.now exits.now heads.now loops.now) n) out.old out.new result }
+// The lines of all places.
+#[tactic(auto, using(crate::proofs::LineLaws::parts_fit))]
+fn put_places(text: &mut Text, l: &Laid, heads: &Set, loops: &Set)
+    requires printable { Printable l.now.graph }
+    requires room { text.old.len + line_room * l.now.graph.blocks ≤ length text.old.out.now }
+    ensures upper_bound { text.new.len ≤ text.old.len + line_room * l.now.graph.blocks }
+    ensures put { Put (lines_to l.now heads.now loops.now l.now.graph.blocks) text.old text.new }
 {
-    let mut at: usize = 0;
-    let mut i: usize = 0;
-    while i < n {
-        let k = listed[i];
-        let next = put_block(out, at, i, k, lists::weight_of(weight, k));
-        at = put_laid(
-            out,
-            next,
-            lists::byte_of(marks, k),
+    for i in 0..l.graph.blocks {
+        let k = l.graph.b.listed[i];
+        put_block(text, i, k, l.graph.b.weight_of(k));
+        put_laid(
+            text,
+            l.graph.b.marks_of(k),
             marks::is_marked(heads, k),
             marks::is_marked(loops, k),
-            lists::byte_of(exits, k),
+            lists::at(&l.exits, k, 0),
         );
-        i = i + 1;
     }
-    at
 }
 
 // The last line: where the cold part starts, or that there is none.
-fn put_split(out: &mut [u8], at: usize, split: usize) -> usize
-    requires { at + length (split_line split) ≤ length out.old }
-    ensures { Put at (split_line split) out.old out.new result }
+#[tactic(auto, using(crate::proofs::DigitLaws::decimal_fits))]
+fn put_split(text: &mut Text, split: Option<usize>)
+    requires { text.old.len + last_room ≤ length text.old.out.now }
+    ensures { Put (last_line split) text.old text.new }
 {
-    let next = text::put_word(out, at, b"split ");
-    if split as u64 == NO_SPLIT {
-        return text::put_word(out, next, b"none\n");
+    text.put_word(b"split ");
+    match split {
+        Some(place) => text.put_number(place as u64, NEWLINE),
+        None => text.put_word(b"none\n"),
     }
-    text::put_number(out, next, split as u64, NEWLINE)
 }
 
-// The listing of n places, at the front of the room; the rest stays.
-pub fn write<'a>(
-    listed: &'a [u16; BLOCKS],
-    marks: &'a [u8; BLOCKS],
-    weight: &'a [u64; BLOCKS],
-    exits: &'a [u8; BLOCKS],
-    heads: &'a [u8; marks::ROOM],
-    loops: &'a [u8; marks::ROOM],
-    n: usize,
-    split: usize,
-    out: &mut [u8],
-) -> usize
-    requires printable { Printable (shown listed.now marks.now weight.now exits.now heads.now loops.now) n }
+// The listing of what is laid, at the front of the room; the rest stays.
+pub fn write(l: &Laid, heads: &Set, loops: &Set, out: &mut [u8]) -> usize
+    requires printable { Printable l.now.graph }
     requires text_room_in_bounds { text_room ≤ length out.old }
-    ensures { Prints (shown listed.now marks.now weight.now exits.now heads.now loops.now) n split out.old out.new result }
+    ensures { Prints l.now heads.now loops.now out.old out.new result }
 {
-    let at = put_places(listed, marks, weight, exits, heads, loops, n, out);
-    put_split(out, at, split)
+    let mut text = Text { out, len: 0 };
+    put_places(&mut text, l, heads, loops);
+    put_split(&mut text, l.split);
+    text.len
 }
 
 // The line of a refusal, at the front of the room; the rest stays.
-pub fn refused(number: u64, place: u64, out: &mut [u8]) -> usize
+#[tactic(auto, using(crate::proofs::LineLaws::words_fit))]
+pub fn refused(r: Refusal, out: &mut [u8]) -> usize
     requires { text_room ≤ length out.old }
-    ensures { Printed (refusal_line (record { number = number; place = place })) out.old out.new result }
+    ensures { Printed (refusal_line (said r)) out.old out.new result }
 {
-    let after_word = text::put_word(out, 0, b"refused ");
-    let after_number = text::put_number(out, after_word, number, SPACE);
-    let after_at = text::put_word(out, after_number, b"at ");
-    text::put_number(out, after_at, place, NEWLINE)
+    let mut text = Text { out, len: 0 };
+    text.put_word(b"refused ");
+    text.put_number(u64::from(r.fault), SPACE);
+    text.put_word(b"at ");
+    text.put_number(r.place as u64, NEWLINE);
+    text.len
 }

@@ -1,5 +1,5 @@
-// Text in lent bytes: each function puts some behind the first `at` bytes, and answers where what comes next goes.
-ghost use Rattle.std.specs.Prelude.{◌≡◌, [], ◌∷◌, ◌++◌, ◌+◌, ◌≤◌, ◌<◌, length};
+// Text in lent bytes: it stands at the front of them, and each function puts some behind what stands there.
+ghost use Rattle.std.specs.Prelude.{◌≡◌, [], ◌∷◌, ◌++◌, ◌+◌, ◌≤◌, length};
 ghost use Rattle.rules.specs.Listing.{space, decimal, letter};
 ghost use Rattle.listing.specs.Put.{Put};
 
@@ -8,69 +8,57 @@ pub const SPACE: u8 = 32;
 
 pub const NEWLINE: u8 = 10;
 
-pub fn put_byte(out: &mut [u8], at: usize, b: u8) -> usize
-    requires { at < length out.old }
-    ensures { Put at (b ∷ []) out.old out.new result }
-{
-    out[at] = b;
-    at + 1
+// A number has at most this many digits.
+const DIGITS: usize = 20;
+
+#[derive(Drop)]
+pub struct Text<'a> {
+    pub out: &'a mut [u8],
+    pub len: usize,
 }
 
-pub fn put_word(out: &mut [u8], at: usize, word: &[u8]) -> usize
-    requires { at + length word.now ≤ length out.old }
-    ensures { Put at word.now out.old out.new result }
-{
-    let mut i: usize = 0;
-    while i < word.len() {
-        out[at + i] = word[i];
-        i = i + 1;
+impl<'a> Text<'a> {
+    #[tactic(auto, unfolding(lists::specs::Behind::behind))]
+    pub fn put_word(&mut self, word: &[u8])
+        requires { self.old.len + length word.now ≤ length self.old.out.now }
+        ensures { Put word.now self.old self.new }
+    {
+        let end = self.len + word.len();
+        self.out[self.len..end].copy_from_slice(word);
+        self.len = end;
     }
-    at + i
-}
 
-// How many digits a number has.
-fn width(n: u64) -> usize
-    ensures { result ≡ length (decimal n) }
-{
-    let mut k: usize = 1;
-    let mut rest = n;
-    while 10 <= rest {
-        rest = rest / 10;
-        k = k + 1;
+    // The digits of a number, made from the last on. By its contract `Display` may fail, so it does not say enough here.
+    fn put_decimal(&mut self, n: u64)
+        requires { self.old.len + length (decimal n) ≤ length self.old.out.now }
+        ensures { Put (decimal n) self.old self.new }
+    {
+        let mut digits = [0; DIGITS];
+        let mut at = DIGITS - 1;
+        let mut rest = n;
+        while 10 <= rest {
+            digits[at] = (48 + rest % 10) as u8;
+            rest /= 10;
+            at -= 1;
+        }
+        digits[at] = (48 + rest) as u8;
+        self.put_word(&digits[at..]);
     }
-    k
-}
 
-// The digits of a number, the last first.
-pub fn put_decimal(out: &mut [u8], at: usize, n: u64) -> usize
-    requires { at + length (decimal n) ≤ length out.old }
-    ensures { Put at (decimal n) out.old out.new result }
-{
-    let end = at + width(n);
-    let mut i = end;
-    let mut rest = n;
-    while at < i {
-        i = i - 1;
-        out[i] = (48 + rest % 10) as u8;
-        rest = rest / 10;
+    // A number, and the byte behind it.
+    pub fn put_number(&mut self, n: u64, end: u8)
+        requires { self.old.len + length (decimal n) + 1 ≤ length self.old.out.now }
+        ensures { Put (decimal n ++ (end ∷ [])) self.old self.new }
+    {
+        self.put_decimal(n);
+        self.put_word(&[end]);
     }
-    end
-}
 
-// A number, and the byte behind it.
-pub fn put_number(out: &mut [u8], at: usize, n: u64, end: u8) -> usize
-    requires { at + length (decimal n) < length out.old }
-    ensures { Put at (decimal n ++ (end ∷ [])) out.old out.new result }
-{
-    let next = put_decimal(out, at, n);
-    put_byte(out, next, end)
-}
-
-// One letter or another, and a space behind it.
-pub fn put_letter(out: &mut [u8], at: usize, c: bool, x: u8, y: u8) -> usize
-    requires { at + 2 ≤ length out.old }
-    ensures { Put at (letter c x y ++ (space ∷ [])) out.old out.new result }
-{
-    let next = put_byte(out, at, if c { x } else { y });
-    put_byte(out, next, SPACE)
+    // One letter or another, and a space behind it.
+    pub fn put_letter(&mut self, c: bool, x: u8, y: u8)
+        requires { self.old.len + 2 ≤ length self.old.out.now }
+        ensures { Put (letter c x y ++ (space ∷ [])) self.old self.new }
+    {
+        self.put_word(&[if c { x } else { y }, SPACE]);
+    }
 }

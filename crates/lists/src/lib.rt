@@ -1,41 +1,11 @@
-// Tables by block number, read without a bound to show; and, in proofs/, the laws on lists as tables.
+// Tables by block number or by arm, read without a bound to show; and, in proofs/, the laws on lists as tables.
 #![tactic(auto)]
 
-ghost use Rattle.std.specs.Prelude.{◌≡◌, length, get_or};
-ghost use Rattle.limits.specs.Limits.{blocks};
+ghost use Rattle.std.specs.Prelude.{◌≡◌, get_or};
 
-use limits::BLOCKS;
-
-// A number as an index.
-pub fn wide(x: u16) -> usize
-    ensures { result ≡ x }
+// What a table has for number n, `none` past its end.
+pub fn at<T: Copy, const N: usize>(table: &[T; N], n: u16, none: T) -> T
+    ensures { result ≡ get_or table.now n none }
 {
-    x as usize
-}
-
-// What a table has for block n, 0 past its end.
-pub fn entry_of(table: &[u16; BLOCKS], n: u16) -> usize
-    requires { length table.now ≡ blocks }
-    ensures { result ≡ get_or table.now n 0 }
-{
-    let k = n as usize;
-    if k < BLOCKS { wide(table[k]) } else { 0 }
-}
-
-// The same of a table of bytes.
-pub fn byte_of(table: &[u8; BLOCKS], n: u16) -> u8
-    requires { length table.now ≡ blocks }
-    ensures { result ≡ get_or table.now n 0 }
-{
-    let k = n as usize;
-    if k < BLOCKS { table[k] } else { 0 }
-}
-
-// The same of a table of weights.
-pub fn weight_of(table: &[u64; BLOCKS], n: u16) -> u64
-    requires { length table.now ≡ blocks }
-    ensures { result ≡ get_or table.now n 0 }
-{
-    let k = n as usize;
-    if k < BLOCKS { table[k] } else { 0 }
+    table.get(usize::from(n)).copied().unwrap_or(none)
 }

@@ -1,34 +1,32 @@
 // A set of block numbers: which blocks are marked. Only this crate knows how a set is held.
 #![tactic(auto)]
 
-ghost use Rattle.std.specs.Prelude.{◌≡◌, false, ◌||◌, ℕ, ◌<◌, eqb, length};
+ghost use Rattle.std.specs.Prelude.{◌≡◌, false, ◌||◌, ℕ, ◌<◌, eqb};
 ghost use Rattle.limits.specs.Limits.{blocks};
-ghost use Rattle.marks.specs.Sets.{room, member};
+ghost use Rattle.marks.specs.Sets.{member};
 
 use limits::BLOCKS;
 
-// How many bytes hold a set.
-pub const ROOM: usize = BLOCKS;
+// The bytes that hold a set.
+pub type Set = [u8; BLOCKS];
 
 // No block is marked.
-pub fn none() -> [u8; ROOM]
-    ensures { (length result ≡ room) × ((m : ℕ) → member result m ≡ false) }
+pub fn none() -> Set
+    ensures { (m : ℕ) → member result m ≡ false }
 {
-    [0; ROOM]
+    [0; BLOCKS]
 }
 
-pub fn is_marked(set: &[u8; ROOM], n: u16) -> bool
-    requires { length set.now ≡ room }
+pub fn is_marked(set: &Set, n: u16) -> bool
     ensures { result ≡ member set.now n }
 {
-    lists::byte_of(set, n) != 0
+    lists::at(set, n, 0) != 0
 }
 
 // Block n is marked, and all that were.
-pub fn mark(set: &mut [u8; ROOM], n: u16)
-    requires { (length set.old ≡ room) × (n < blocks) }
-    ensures { (length set.new ≡ room) × ((m : ℕ) → member set.new m ≡ eqb m n || member set.old m) }
+pub fn mark(set: &mut Set, n: u16)
+    requires { n < blocks }
+    ensures { (m : ℕ) → member set.new m ≡ eqb m n || member set.old m }
 {
-    let k = n as usize;
-    set[k] = 1;
+    set[n as usize] = 1;
 }

@@ -1,54 +1,49 @@
 -- One block record more: what the tables then say, and how a refusal is the first. Assumes nothing.
-use Prim.Native.Nat.{ℕ, suc, ◌+◌, ◌<◌}
+use Prim.Native.Nat.{ℕ, suc, ◌+◌, ◌<◌, ◌/◌}
 use native.Mathlib.Numerals.{add-one}
 use native.Mathlib.Omega.{arith}
 use mathlib.Core.Path.{◌≡◌, refl, sym, ap, subst, ◌∙◌}
-use mathlib.Core.Bool.{Bool, true, false, cond, ◌&&◌}
-use mathlib.Core.Logic.{⊎_elim}
-use mathlib.Core.List.{List, [], ◌∷◌}
+use mathlib.Core.Bool.{Bool, true, false, cond, ◌&&◌, true≢false}
+use mathlib.Core.List.{List}
 use lib.Dec.{ltb, eqb}
-use lib.ListN.{length, get_or, set, length-set, length-replicate}
+use lib.ListN.{length, get_or, length-set, length-replicate}
 use lib.Seq.{get_or-set_same, get_or-set_other}
-use borrow.Enum.Refused.{Among, opened}
-use denote.Enum.Declared.{tag_of}
 use borrow.Author.Tests.{ltb-false}
-use Rattle.limits.specs.Limits.{numbers, blocks}
+use Rattle.std.specs.Prelude.{Option, None, Some, is_some}
+use Rattle.limits.specs.Limits.{size, numbers, blocks}
 use Rattle.lists.proofs.Choices.{split_lt}
 use Rattle.lists.proofs.Tables.{set_get, zero_get, marked_none, marked_room, marked_more}
-use Rattle.rules.specs.declared.Record.{Record}
-use Rattle.rules.specs.declared.Record.TheVariants.{Block, Arm, Outside}
+use Rattle.rules.specs.declared.Record.TheVariants.{Block}
+use Rattle.rules.specs.declared.Fault.{Fault}
+use Rattle.rules.specs.declared.Fault.TheVariants.{ListedBefore, SecondEntry}
 use Rattle.rules.specs.Graph.{is_entry}
 use Rattle.rules.specs.Records.{record_at, before}
-use Rattle.rules.specs.Refusals.{place_of, entry_of, arm_count, listed, record_checks, all_checks, fine, first}
-use Rattle.rules.specs.contracts.Record.{the_type}
+use Rattle.rules.specs.Refusals.{place_of, entry_of, arm_count, listed as is_listed, record_checks, all_checks, fine, first, verdict}
 use Rattle.rules.proofs.Layouts.{block_small}
-use Rattle.rules.proofs.Verdicts.{first_after, clear_join, before_length}
+use Rattle.rules.proofs.Verdicts.{at, clear_join, before_length}
 use Rattle.records.specs.declared.Blocks.{Blocks}
 use Rattle.records.specs.Tables.{no_blocks, Blank}
-use Rattle.records.specs.Faults.{block_fault, no_block, entry_next}
-use Rattle.reader.specs.Reads.{at, IsBlock, says_block, BlocksHeld, BlocksReadOf}
+use Rattle.records.specs.Faults.{block_fault, entry_next}
+use Rattle.reader.specs.Reads.{listed, InRecords, says_block, BlocksHeld}
+use Rattle.reader.proofs.RefusedLaws.{told, refused_at}
 
 -- 5 and 6, as the reader asks for them
-block_faulty : (x y z : Bool) (k why : ℕ) → why ≡ cond x 5 (cond y (cond z 6 0) 0) → (why ≡ 0 → ⊥)
-    → cond x (at 5 k) (cond (y && z) (at 6 k) fine) ≡ at why k
-block_faulty true y z k why w n = rw w
-block_faulty false true true k why w n = rw w
-block_faulty false true false k why w n = absurd (n w)
-block_faulty false false z k why w n = absurd (n w)
+block_faulty : (x y : Bool) (k : ℕ) → cond x (at 5 k) (cond y (at 6 k) fine) ≡ told k (cond x (Some ListedBefore) (cond y (Some SecondEntry) None))
+block_faulty true y k = refl
+block_faulty false true k = refl
+block_faulty false false k = refl
 
-block_fine : (x y z : Bool) → ◌≡◌ {A = ℕ} (cond x 5 (cond y (cond z 6 0) 0)) 0 → (x ≡ false) × (y && z ≡ false)
-block_fine true y z w = absurd (omega (arith, w))
-block_fine false true true w = absurd (omega (arith, w))
-block_fine false true false w = (refl, refl)
-block_fine false false z w = (refl, refl)
+block_fine : (x y : Bool) → ◌≡◌ {A = Option Fault} (cond x (Some ListedBefore) (cond y (Some SecondEntry) None)) None → (x ≡ false) × (y ≡ false)
+block_fine true y e = absurd (true≢false (ap is_some e))
+block_fine false true e = absurd (true≢false (ap is_some e))
+block_fine false false e = (refl, refl)
 
-pub held_start : (s : List ℕ) → BlocksHeld s 0 0 no_blocks
-unfolding no_blocks before all_checks arm_count entry_of place_of
+pub held_start : (s : List ℕ) → BlocksHeld s 0 no_blocks
+unfolding no_blocks before all_checks arm_count place_of
 held_start s =
     record {
       clear = tt;
       armless = refl;
-      entry_is = refl;
       place = λ n. zero_get blocks n;
       says = λ j h. absurd (omega (arith, h));
       back = λ j h. absurd (omega (arith, h));
@@ -64,43 +59,33 @@ held_start s =
           };
     }
 
-module _ (s : List ℕ) (i entry : ℕ) (b : Blocks) (h : BlocksHeld s i entry b) where
-  -- the first line that holds is one of record i's
-  pub refused_at : (r : Record) (why : ℕ) → record_at s i ≡ r → first (record_checks (before s i) r) ≡ at why (length (before s i))
-      → first (all_checks (before s (suc i))) ≡ at why i
-  unfolding before all_checks
-  refused_at r why e f =
-      first_after (all_checks (before s i)) (record_checks (before s i) (record_at s i)) h.clear
-      ∙ ap (λ (q : Record). first (record_checks (before s i) q)) e
-      ∙ f
-      ∙ ap (at why) (before_length s i)
+module _ (s : List ℕ) (i : ℕ) (b : Blocks) (h : BlocksHeld s i b) where
+  module _ (number marks end weight : ℕ) (e : record_at s i ≡ Block number marks end weight) (entry : ℕ) (entry_is : entry ≡ entry_of (before s i)) where
+    same_fault : block_fault (get_or b.place number 0) entry marks ≡ block_fault (place_of number (before s i)) (entry_of (before s i)) marks
+    same_fault = rw (h.place number, entry_is)
 
-  pub outside_at : record_at s i ≡ Outside → first (all_checks (before s (suc i))) ≡ at 3 i
-  unfolding record_checks first
-  outside_at e = refused_at Outside 3 e refl
-
-  module _ (number marks end weight : ℕ) (e : record_at s i ≡ Block number marks end weight) where
-    pub block_refused : (why : ℕ) → why ≡ block_fault (get_or b.place number 0) entry marks → (why ≡ 0 → ⊥)
-        → first (all_checks (before s (suc i))) ≡ at why i
-    unfolding record_checks first listed block_fault
-    block_refused why w z =
-        refused_at (Block number marks end weight) why e
+    pub block_refused : InRecords s → i < length s / size → (f : Fault) → block_fault (get_or b.place number 0) entry marks ≡ Some f → verdict s ≡ told i (Some f)
+    unfolding record_checks first is_listed block_fault
+    block_refused file inside f w =
+        refused_at s i file inside h.clear (Block number marks end weight) f e
         (rw h.armless
-        (block_faulty (ltb 0 (place_of number (before s i))) (is_entry marks) (ltb 0 (entry_of (before s i))) (length (before s i)) why
-        (w ∙ rw (h.place number, h.entry_is)) z))
+        (block_faulty (ltb 0 (place_of number (before s i))) (is_entry marks && ltb 0 (entry_of (before s i))) (length (before s i))
+        ∙ ap (told (length (before s i))) (sym same_fault ∙ w)))
 
-    module _ (w : block_fault (get_or b.place number 0) entry marks ≡ 0) where
+    pub entry_turn : entry_next entry marks i ≡ entry_of (before s (i + 1))
+    unfolding before entry_of entry_next
+    entry_turn = rw add-one (rw e (rw (before_length s i, entry_is)))
+
+    module _ (w : block_fault (get_or b.place number 0) entry marks ≡ None) where
       small : number < numbers
       small = block_small s i number marks end weight e
 
-      clears : (listed number (before s i) ≡ false) × (is_entry marks && ltb 0 (entry_of (before s i)) ≡ false)
-      unfolding listed block_fault
-      clears =
-          block_fine (ltb 0 (place_of number (before s i))) (is_entry marks) (ltb 0 (entry_of (before s i)))
-          (sym (rw (h.place number, h.entry_is)) ∙ w)
+      clears : (is_listed number (before s i) ≡ false) × (is_entry marks && ltb 0 (entry_of (before s i)) ≡ false)
+      unfolding is_listed block_fault
+      clears = block_fine (ltb 0 (place_of number (before s i))) (is_entry marks && ltb 0 (entry_of (before s i))) (sym same_fault ∙ w)
 
       fresh : get_or b.place number 0 ≡ 0
-      unfolding listed
+      unfolding is_listed
       fresh = h.place number ∙ omega (arith, ltb-false 0 (place_of number (before s i)) clears.0)
 
       -- there is room for one more
@@ -111,16 +96,8 @@ module _ (s : List ℕ) (i entry : ℕ) (b : Blocks) (h : BlocksHeld s i entry b
       other : (j : ℕ) → j < i → get_or b.listed j 0 ≡ number → ⊥
       other j l q = omega (arith, sym (h.back j l) ∙ ap (λ (n : ℕ). get_or b.place n 0) q ∙ fresh)
 
-      -- the tables with this block in them
       abbrev next : Blocks
-      next =
-          record {
-            place = set b.place number (i + 1);
-            listed = set b.listed i number;
-            marks = set b.marks number marks;
-            ends = set b.ends number end;
-            weight = set b.weight number weight;
-          }
+      next = listed b i number marks end weight
 
       -- entries of other numbers are as they were
       kept : (n : ℕ) → (n ≡ number → ⊥) → says_block next n ≡ says_block b n
@@ -180,15 +157,14 @@ module _ (s : List ℕ) (i entry : ℕ) (b : Blocks) (h : BlocksHeld s i entry b
             weight = get_or-set_other b.weight number n weight 0 d ∙ k.weight;
           }
 
-      turned : BlocksHeld s (suc i) (entry_next entry marks i) next
-      unfolding before all_checks arm_count entry_of place_of entry_next record_checks
+      turned : BlocksHeld s (suc i) next
+      unfolding before all_checks arm_count place_of record_checks
       turned =
           let long : i + 1 ≡ suc (length (before s i)) = omega (arith, before_length s i) in
           let none : ltb 0 (arm_count (before s i)) ≡ false = rw h.armless in
           record {
             clear = clear_join (all_checks (before s i)) (record_checks (before s i) (record_at s i)) h.clear (rw e (none, (clears.0, (clears.1, tt))));
             armless = rw e h.armless;
-            entry_is = rw e (rw (long, h.entry_is));
             place = λ n. rw e (place_next n ∙ rw (long, h.place n));
             says = says_next;
             back = back_next;
@@ -204,32 +180,5 @@ module _ (s : List ℕ) (i entry : ℕ) (b : Blocks) (h : BlocksHeld s i entry b
                 };
           }
 
-      pub block_turn : BlocksHeld s (i + 1) (entry_next entry marks i)
-          (record {
-            place = set b.place number (i + 1);
-            listed = set b.listed i number;
-            marks = set b.marks number marks;
-            ends = set b.ends number end;
-            weight = set b.weight number weight;
-          })
-      block_turn = subst (λ (n : ℕ). BlocksHeld s n (entry_next entry marks i) next) (sym (add-one i)) turned
-
--- what is left of a match when the block is taken out of it
-pub not_block : (r : Record) → Among (1 ∷ 2 ∷ []) (tag_of the_type r) → IsBlock r → ⊥
-not_block (Block number marks end weight) a k = ⊎_elim (λ q. omega (arith, q)) (λ q. omega (arith, q)) (opened a)
-not_block (Arm from to args weight) q k = k
-not_block Outside q k = k
-
-module _ (s : List ℕ) (i n entry : ℕ) (b : Blocks) (h : BlocksHeld s i entry b) (l : i < n) where
-  -- the reading ends at a record that is no block
-  pub ends_at : (r : Record) → record_at s i ≡ r → (IsBlock r → ⊥) → BlocksReadOf s n b (record { why = no_block r; at = i; entry = entry })
-  unfolding no_block
-  ends_at (Block number marks end weight) e d = absurd (d tt)
-  ends_at (Arm from to args weight) e d =
-      record { within = omega (arith, l); refused = λ z. absurd (z refl); held = λ z. h; ended = λ z k. rw e (λ x. x) }
-  ends_at Outside e d =
-      record { within = omega (arith, l); refused = λ z. (l, outside_at s i entry b h e); held = λ z. absurd (omega (arith, z)); ended = λ z. absurd (omega (arith, z)) }
-
-  -- or at one that is refused
-  pub stops_at : (why : ℕ) → first (all_checks (before s (suc i))) ≡ at why i → (why ≡ 0 → ⊥) → BlocksReadOf s n b (record { why = why; at = i; entry = entry })
-  stops_at why f z = record { within = omega (arith, l); refused = λ _. (l, f); held = λ q. absurd (z q); ended = λ q. absurd (z q) }
+      pub block_turn : BlocksHeld s (i + 1) (listed b i number marks end weight)
+      block_turn = subst (λ (n : ℕ). BlocksHeld s n next) (sym (add-one i)) turned

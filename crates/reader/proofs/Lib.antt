@@ -1,3 +1,4 @@
+pub mod RefusedLaws
 pub mod BlockLaws
 pub mod ArmLaws
 pub mod PanicLaws

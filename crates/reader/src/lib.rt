@@ -1,233 +1,147 @@
-// A file read into tables that are lent, with refusals 1 to 9 as document 01 gives them: the first record that is refused
-// ends the reading. The caller's tables are zeros before; where the file is refused nothing is said of what they hold.
+// A file read into a graph that is lent, with refusals 1 to 9 as document 01 gives them: the first record that is refused
+// ends the reading. The graph's tables are zeros before; where the file is refused nothing is said of what they hold.
 #![tactic(auto)]
 
-ghost use Rattle.std.specs.Prelude.{◌≡◌, ◌+◌, ◌*◌, ◌%◌, ◌≤◌, ◌<◌, length};
-ghost use Rattle.limits.specs.Limits.{size, most_bytes, blocks, arms};
-ghost use Rattle.records.specs.Tables.{block_tables, arm_tables, no_blocks, no_arms, ArmsSized, ArmsWithin};
-ghost use Rattle.reader.specs.Reads.{at, BlocksReadOf, ArmsAfter, PanicOf, Reads};
+ghost use Rattle.std.specs.Prelude.{◌≡◌, ◌≤◌, ◌<◌, ℕ, List};
+ghost use Rattle.limits.specs.Limits.{blocks, arms};
+ghost use Rattle.records.specs.Tables.{no_blocks, no_arms, ArmsWithin};
+ghost use Rattle.reader.specs.Reads.{listed, added, InRecords, BlocksRead, Behind, ArmsRead, PanicOf, Reads};
 
-use limits::{ARMS, BLOCKS, MOST_BYTES, RECORD};
-use records::{faults, fields};
-use rules::{Record, Verdict};
+use limits::{MOST_BYTES, RECORD};
+use records::{Arms, Blocks, Graph, faults, fields};
+use rules::{Fault, Record, Refusal};
 
-// How many records stand before the first that is no block, where its entry is listed, and why reading stopped there: a
-// refusal, or 0.
-#[derive(Drop)]
-pub struct BlocksRead {
-    pub why: u64,
-    pub at: usize,
-    pub entry: usize,
-}
-
-// How many arm records stand before the first that is refused (why is then not 0).
-#[derive(Drop)]
-pub struct ArmsRead {
-    pub why: u64,
-    pub at: usize,
-}
-
-// The verdict on a file, and how many blocks and arms it has where nothing is refused.
-#[derive(Drop)]
-pub struct Reading {
-    pub verdict: Verdict,
-    pub blocks: usize,
-    pub arms: usize,
-}
-
-// The n records of s, up to the first that is no block or is refused.
-fn read_blocks(
-    s: &[u8],
-    n: usize,
-    place: &mut [u16; BLOCKS],
-    listed: &mut [u16; BLOCKS],
-    marks: &mut [u8; BLOCKS],
-    ends: &mut [u8; BLOCKS],
-    weight: &mut [u64; BLOCKS],
-) -> BlocksRead
-    requires { (size * n ≤ length s.now) × (n ≤ arms) × (block_tables place.old listed.old marks.old ends.old weight.old ≡ no_blocks) }
-    ensures { BlocksReadOf s.now n (block_tables place.new listed.new marks.new ends.new weight.new) result }
+// Lists block `number` at place i.
+fn list(b: &mut Blocks, i: usize, number: u16, marks: u8, end: u8, weight: u64)
+    requires { (i < blocks) × (number < blocks) }
+    ensures { b.new ≡ listed b.old i number marks end weight }
 {
-    let mut entry: usize = 0;
-    let mut i: usize = 0;
-    while i < n {
-        let at = RECORD * i;
-        let r = fields::decode(&s[at..at + RECORD]);
-        let Record::Block {
-            number,
-            marks: m,
-            end,
-            weight: w,
-        } = r
-        else {
-            let why = faults::no_block(r);
-            return BlocksRead { why, at: i, entry };
-        };
-        let why = faults::block_fault(lists::entry_of(place, number), entry, m);
-        if why != 0 {
-            return BlocksRead { why, at: i, entry };
-        }
-        let k = number as usize;
-        entry = faults::entry_next(entry, m, i);
-        place[k] = (i + 1) as u16;
-        listed[i] = number;
-        marks[k] = m;
-        ends[k] = end;
-        weight[k] = w;
-        i = i + 1;
-    }
-    BlocksRead {
-        why: 0,
-        at: i,
-        entry,
-    }
+    let n = usize::from(number);
+    b.place[n] = (i + 1) as u16;
+    b.listed[i] = number;
+    b.marks[n] = marks;
+    b.ends[n] = end;
+    b.weight[n] = weight;
 }
 
-// The m records of t, which come after the blocks; `place` says where each block is listed.
-fn read_arms(
-    t: &[u8],
-    place: &[u16; BLOCKS],
-    m: usize,
-    first: &mut [u16; BLOCKS],
-    count: &mut [u16; BLOCKS],
-    to: &mut [u16; ARMS],
-    args: &mut [u8; ARMS],
-    weight: &mut [u64; ARMS],
-) -> ArmsRead
-    requires { (size * m ≤ length t.now) × (m ≤ arms) × (length place.now ≡ blocks) × (arm_tables first.old count.old to.old args.old weight.old ≡ no_arms) }
-    ensures arms_sized { ArmsSized (arm_tables first.new count.new to.new args.new weight.new) × ArmsWithin (arm_tables first.new count.new to.new args.new weight.new) result.at × (result.at ≤ m) }
-    ensures arms_after { ArmsAfter place.now t.now m (arm_tables first.new count.new to.new args.new weight.new) result }
-{
-    let mut last: usize = 0;
-    let mut j: usize = 0;
-    while j < m {
-        let at = RECORD * j;
-        let r = fields::decode(&t[at..at + RECORD]);
-        let Record::Arm {
-            from,
-            to: onto,
-            args: a,
-            weight: w,
-        } = r
-        else {
-            let why = faults::no_arm(r);
-            return ArmsRead { why, at: j };
-        };
-        let here = lists::entry_of(place, from);
-        let why = faults::arm_fault(here, lists::entry_of(place, onto), last, j);
-        if why != 0 {
-            return ArmsRead { why, at: j };
-        }
-        let k = from as usize;
-        let c = count[k];
-        first[k] = faults::first_next(first[k], c, j);
-        count[k] = c + 1;
-        to[j] = onto;
-        args[j] = a;
-        weight[j] = w;
-        last = here;
-        j = j + 1;
-    }
-    ArmsRead { why: 0, at: j }
-}
-
-// The place of the first of n listed blocks that has too many arms for its end; n where there is none.
-fn first_panic<'a>(
-    listed: &'a [u16; BLOCKS],
-    ends: &'a [u8; BLOCKS],
-    count: &'a [u16; BLOCKS],
-    n: usize,
-) -> usize
-    requires { (n ≤ blocks) × (length listed.now ≡ blocks) × (length ends.now ≡ blocks) × (length count.now ≡ blocks) }
-    ensures { PanicOf listed.now ends.now count.now n result }
-{
-    let mut i: usize = 0;
-    while i < n {
-        let k = listed[i];
-        if faults::too_many(lists::byte_of(ends, k), lists::entry_of(count, k)) {
-            return i;
-        }
-        i = i + 1;
-    }
-    i
-}
-
-fn refused(number: u64, place: usize) -> Reading
-    ensures { result.verdict ≡ at number place }
-{
-    Reading {
-        verdict: Verdict { number, place },
-        blocks: 0,
-        arms: 0,
-    }
-}
-
-fn read_records(
-    s: &[u8],
-    place: &mut [u16; BLOCKS],
-    listed: &mut [u16; BLOCKS],
-    marks: &mut [u8; BLOCKS],
-    ends: &mut [u8; BLOCKS],
-    weight: &mut [u64; BLOCKS],
-    first: &mut [u16; BLOCKS],
-    count: &mut [u16; BLOCKS],
-    to: &mut [u16; ARMS],
-    args: &mut [u8; ARMS],
-    heft: &mut [u64; ARMS],
-) -> Reading
-    requires s_len_bound { (length s.now ≤ most_bytes) × (length s.now % size ≡ 0) }
-    requires weight_value { (block_tables place.old listed.old marks.old ends.old weight.old ≡ no_blocks) × (arm_tables first.old count.old to.old args.old heft.old ≡ no_arms) }
-    ensures { Reads s.now (block_tables place.new listed.new marks.new ends.new weight.new) (arm_tables first.new count.new to.new args.new heft.new) result }
+// The block records that s begins with, and how many they are.
+fn read_blocks(s: &[u8], b: &mut Blocks) -> Result<usize, Refusal>
+    requires { InRecords s.now × (b.old ≡ no_blocks) }
+    ensures { BlocksRead s.now b.new result }
 {
     let n = s.len() / RECORD;
-    let front = read_blocks(s, n, place, listed, marks, ends, weight);
-    let i = front.at;
-    if front.why != 0 {
-        return refused(front.why, i);
+    let mut entry = 0;
+    for i in 0..n {
+        let at = RECORD * i;
+        match fields::decode(&s[at..at + RECORD]) {
+            Record::Block {
+                number,
+                marks,
+                end,
+                weight,
+            } => {
+                if let Some(fault) = faults::block_fault(b.place_of(number), entry, marks) {
+                    return Err(Refusal { fault, place: i });
+                }
+                entry = faults::entry_next(entry, marks, i);
+                list(b, i, number, marks, end, weight);
+            }
+            Record::Arm { .. } => return Ok(i),
+            Record::Outside => return Err(Refusal {
+                fault: Fault::OutsideLayout,
+                place: i,
+            }),
+        }
     }
-    let rest = read_arms(&s[RECORD * i..], place, n - i, first, count, to, args, heft);
-    if rest.why != 0 {
-        return refused(rest.why, i + rest.at);
-    }
-    let p = first_panic(listed, ends, count, i);
-    if p < i {
-        return refused(9, p);
-    }
-    Reading {
-        verdict: Verdict {
-            number: 0,
-            place: 0,
-        },
-        blocks: i,
-        arms: n - i,
-    }
+    Ok(n)
 }
 
-// The whole file: its verdict, 1 to 9 or 0, and where nothing is refused its graph in the tables.
+// Adds arm j, which leaves block `from` and is its last.
+fn add(a: &mut Arms, j: usize, from: u16, to: u16, args: u8, weight: u64)
+    requires { (j < arms) × (from < blocks) × ArmsWithin a.old j }
+    ensures { a.new ≡ added a.old j from to args weight }
+{
+    let n = usize::from(from);
+    let count = a.count[n];
+    a.first[n] = faults::first_next(a.first[n], count, j);
+    a.count[n] = count + 1;
+    a.to[j] = to;
+    a.args[j] = args;
+    a.weight[j] = weight;
+}
+
+// The records of t, which a file has behind its first `blocks`, these blocks: they have to be arms.
+fn read_arms(t: &[u8], blocks: usize, b: &Blocks, a: &mut Arms) -> Result<(), Refusal>
+    requires { ((s : List ℕ) × Behind s t.now blocks b.now) × (a.old ≡ no_arms) }
+    ensures { (s : List ℕ) → Behind s t.now blocks b.now → ArmsRead s blocks b.now a.new result }
+{
+    let mut last = 0;
+    for j in 0..t.len() / RECORD {
+        let at = RECORD * j;
+        let place = blocks + j;
+        match fields::decode(&t[at..at + RECORD]) {
+            Record::Arm {
+                from,
+                to,
+                args,
+                weight,
+            } => {
+                let here = b.place_of(from);
+                if let Some(fault) = faults::arm_fault(here, b.place_of(to), last, j) {
+                    return Err(Refusal { fault, place });
+                }
+                add(a, j, from, to, args, weight);
+                last = here;
+            }
+            Record::Block { .. } => return Err(Refusal {
+                fault: Fault::OutOfOrder,
+                place,
+            }),
+            Record::Outside => return Err(Refusal {
+                fault: Fault::OutsideLayout,
+                place,
+            }),
+        }
+    }
+    Ok(())
+}
+
+// Where the first block is listed that has too many arms for its end.
+fn first_panic(g: &Graph) -> Option<usize>
+    requires { g.now.blocks ≤ blocks }
+    ensures { PanicOf g.now result }
+{
+    g.b.listed[..g.blocks]
+        .iter()
+        .position(|&n| faults::too_many(g.b.end_of(n), g.a.count_of(n)))
+}
+
+// The whole file: what refuses it, 1 to 9, and where nothing does its graph.
 #[tactic(auto, using(crate::proofs::ReadLaws::refuses, rules::proofs::Verdicts::too_long, rules::proofs::Verdicts::not_whole))]
-pub fn read(
-    s: &[u8],
-    place: &mut [u16; BLOCKS],
-    listed: &mut [u16; BLOCKS],
-    marks: &mut [u8; BLOCKS],
-    ends: &mut [u8; BLOCKS],
-    weight: &mut [u64; BLOCKS],
-    first: &mut [u16; BLOCKS],
-    count: &mut [u16; BLOCKS],
-    to: &mut [u16; ARMS],
-    args: &mut [u8; ARMS],
-    heft: &mut [u64; ARMS],
-) -> Reading
-    requires { (block_tables place.old listed.old marks.old ends.old weight.old ≡ no_blocks) × (arm_tables first.old count.old to.old args.old heft.old ≡ no_arms) }
-    ensures { Reads s.now (block_tables place.new listed.new marks.new ends.new weight.new) (arm_tables first.new count.new to.new args.new heft.new) result }
+pub fn read(s: &[u8], g: &mut Graph) -> Result<(), Refusal>
+    requires { (g.old.b ≡ no_blocks) × (g.old.a ≡ no_arms) }
+    ensures { Reads s.now g.new result }
 {
     if MOST_BYTES < s.len() {
-        return refused(1, 0);
+        return Err(Refusal {
+            fault: Fault::TooLong,
+            place: 0,
+        });
     }
     if s.len() % RECORD != 0 {
-        return refused(2, 0);
+        return Err(Refusal {
+            fault: Fault::NotWhole,
+            place: 0,
+        });
     }
-    read_records(
-        s, place, listed, marks, ends, weight, first, count, to, args, heft,
-    )
+    g.blocks = read_blocks(s, &mut g.b)?;
+    read_arms(&s[RECORD * g.blocks..], g.blocks, &g.b, &mut g.a)?;
+    g.arms = s.len() / RECORD - g.blocks;
+    match first_panic(g) {
+        Some(place) => Err(Refusal {
+            fault: Fault::TooManyForEnd,
+            place,
+        }),
+        None => Ok(()),
+    }
 }

@@ -1,4 +1,3 @@
 pub mod Laws
-pub mod FaultLaws
 pub mod TableLaws
 pub mod StandLaws

@@ -3,17 +3,14 @@ use Prim.Native.Nat.{ℕ, zero, suc, ◌+◌, ◌-◌, ◌≤◌, ◌<◌}
 use native.Mathlib.Nat.{add-zero, add-suc}
 use native.Mathlib.Omega.{arith}
 use mathlib.Core.Path.{◌≡◌, refl, sym, ap, ◌∙◌, subst}
-use mathlib.Core.Bool.{Bool, true, false, not, true≢false}
+use mathlib.Core.Bool.{Bool, true, false, not}
 use mathlib.Core.Logic.{◌⊎◌, inl, inr, ⊎_elim}
 use mathlib.Core.List.{List, [], ◌∷◌, ◌++◌}
-use mathlib.Core.Option.{Option, none, some}
+use Rattle.std.specs.Prelude.{Option, None, Some}
 use lib.Dec.{T, eqb, ltb, eqb→eq, ltb→lt, nltb→le}
-use lib.ListN.{length, get_or, take, get_or-eq_default}
+use lib.ListN.{length, get_or, take}
 use lib.Seq.{take-suc}
-use borrow.Author.Tests.{lt-ltb}
-use Rattle.limits.specs.Limits as most
-use Rattle.lists.proofs.Choices.{split_eq, split_lt}
-use Rattle.rules.specs.Lists.{pick}
+use Rattle.lists.proofs.Choices.{split_eq}
 use Rattle.rules.specs.Graph as graph
 use Rattle.rules.specs.Graph.{numbers_of, entry, bit, is_entry}
 use Rattle.rules.proofs.Membership.{In, In-left, In-right, append-In, map_append, test, T→≡, F→≡}
@@ -21,7 +18,7 @@ use Rattle.rules.proofs.Counting.{one, tally, tally_append, count, Once, count�
 use Rattle.rules.proofs.Wholeness.{block_in}
 use Rattle.records.specs.declared.Blocks.{Blocks}
 use Rattle.records.specs.declared.Arms.{Arms}
-use Rattle.records.specs.Tables.{block_at, up_to, optional}
+use Rattle.records.specs.Tables.{block_at, up_to}
 
 module _ (b : Blocks) (a : Arms) where
   -- the numbers, one more at a time
@@ -83,18 +80,18 @@ module _ (b : Blocks) (a : Arms) where
 
 -- ---- the entry
 abbrev or_else : Option ℕ → Option ℕ → Option ℕ
-or_else none o = o
-or_else (some e) o = some e
+or_else None o = o
+or_else (Some e) o = Some e
 
 abbrev marked : Bool → ℕ → Option ℕ → Option ℕ
-marked true n o = some n
+marked true n o = Some n
 marked false n o = o
 
 entry_cons : (x : graph.Block) (g : graph.Graph) → entry (x ∷ g) ≡ marked (is_entry x.marks) x.number (entry g)
 unfolding entry
 entry_cons x g = go (is_entry x.marks)
   where
-    go : (t : Bool) → ◌≡◌ {A = Option ℕ} (elim t [ true ↦ some x.number | false ↦ entry g ]) (marked t x.number (entry g))
+    go : (t : Bool) → ◌≡◌ {A = Option ℕ} (elim t [ true ↦ Some x.number | false ↦ entry g ]) (marked t x.number (entry g))
     go true = refl
     go false = refl
 
@@ -118,37 +115,21 @@ module _ (b c : Blocks) (a d : Arms) (same : b.listed ≡ c.listed) (marks : b.m
 
 module _ (b : Blocks) (a : Arms) where
   -- one block more
-  entry_more : (n : ℕ) → entry (up_to b a (suc n)) ≡ or_else (entry (up_to b a n)) (marked (is_entry (get_or b.marks (get_or b.listed n 0) 0)) (get_or b.listed n 0) none)
+  entry_more : (n : ℕ) → entry (up_to b a (suc n)) ≡ or_else (entry (up_to b a n)) (marked (is_entry (get_or b.marks (get_or b.listed n 0) 0)) (get_or b.listed n 0) None)
   unfolding up_to block_at entry
   entry_more n =
       entry_append (up_to b a n) (block_at b a (get_or b.listed n 0) ∷ []) ∙ ap (or_else (entry (up_to b a n))) (entry_cons (block_at b a (get_or b.listed n 0)) [])
 
-  pub entry_none : (n : ℕ) → entry (up_to b a n) ≡ none → is_entry (get_or b.marks (get_or b.listed n 0) 0) ≡ false → entry (up_to b a (suc n)) ≡ none
-  entry_none n e f = entry_more n ∙ ap (λ (o : Option ℕ). or_else o (marked (is_entry (get_or b.marks (get_or b.listed n 0) 0)) (get_or b.listed n 0) none)) e ∙ ap (λ (t : Bool). marked t (get_or b.listed n 0) none) f
+  pub entry_none : (n : ℕ) → entry (up_to b a n) ≡ None → is_entry (get_or b.marks (get_or b.listed n 0) 0) ≡ false → entry (up_to b a (suc n)) ≡ None
+  entry_none n e f = entry_more n ∙ ap (λ (o : Option ℕ). or_else o (marked (is_entry (get_or b.marks (get_or b.listed n 0) 0)) (get_or b.listed n 0) None)) e ∙ ap (λ (t : Bool). marked t (get_or b.listed n 0) None) f
 
-  pub entry_some : (n : ℕ) → entry (up_to b a n) ≡ none → is_entry (get_or b.marks (get_or b.listed n 0) 0) ≡ true → entry (up_to b a (suc n)) ≡ some (get_or b.listed n 0)
-  entry_some n e f = entry_more n ∙ ap (λ (o : Option ℕ). or_else o (marked (is_entry (get_or b.marks (get_or b.listed n 0) 0)) (get_or b.listed n 0) none)) e ∙ ap (λ (t : Bool). marked t (get_or b.listed n 0) none) f
+  pub entry_some : (n : ℕ) → entry (up_to b a n) ≡ None → is_entry (get_or b.marks (get_or b.listed n 0) 0) ≡ true → entry (up_to b a (suc n)) ≡ Some (get_or b.listed n 0)
+  entry_some n e f = entry_more n ∙ ap (λ (o : Option ℕ). or_else o (marked (is_entry (get_or b.marks (get_or b.listed n 0) 0)) (get_or b.listed n 0) None)) e ∙ ap (λ (t : Bool). marked t (get_or b.listed n 0) None) f
 
-  entry_on : (i k e : ℕ) → entry (up_to b a i) ≡ some e → entry (up_to b a (i + k)) ≡ some e
+  entry_on : (i k e : ℕ) → entry (up_to b a i) ≡ Some e → entry (up_to b a (i + k)) ≡ Some e
   unfolding up_to
   entry_on i zero e h = rw add-zero h
   entry_on i (suc k) e h = rw add-suc (entry_append (up_to b a (i + k)) (block_at b a (get_or b.listed (i + k) 0) ∷ []) ∙ rw (entry_on i k e h))
 
-  pub entry_stays : (i n e : ℕ) → i ≤ n → entry (up_to b a i) ≡ some e → entry (up_to b a n) ≡ some e
-  entry_stays i n e l h = let q : i + (n - i) ≡ n = omega (arith, l) in subst (λ (m : ℕ). entry (up_to b a m) ≡ some e) q (entry_on i (n - i) e h)
-
--- ---- a number that may be none
-pub optional_none : optional most.blocks ≡ none
-unfolding optional pick
-optional_none = refl
-
-pub optional_some : (n : ℕ) → n < most.blocks → optional n ≡ some n
-unfolding optional pick
-optional_some n h = rw (lt-ltb n most.blocks h)
-
--- past the table there are no marks
-pub entry_small : (marks : List ℕ) (n : ℕ) → is_entry (get_or marks n 0) ≡ true → n < length marks
-unfolding is_entry bit
-entry_small marks n e =
-    split_lt n (length marks) (λ h. h)
-    (λ h. absurd (let q : get_or marks n 0 ≡ 0 = get_or-eq_default marks 0 h in let z : false ≡ true = sym (ap (λ (m : ℕ). is_entry m) q) ∙ e in true≢false (sym z)))
+  pub entry_stays : (i n e : ℕ) → i ≤ n → entry (up_to b a i) ≡ Some e → entry (up_to b a n) ≡ Some e
+  entry_stays i n e l h = let q : i + (n - i) ≡ n = omega (arith, l) in subst (λ (m : ℕ). entry (up_to b a m) ≡ Some e) q (entry_on i (n - i) e h)

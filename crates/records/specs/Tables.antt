@@ -1,10 +1,9 @@
 -- The graph that the tables hold.
-use Rattle.std.specs.Prelude.{ℕ, zero, suc, ◌+◌, ◌*◌, ◌≤◌, ◌<◌, ◌≡◌, List, [], ◌∷◌, ◌++◌, ltb, length, get_or, replicate, take}
-use Rattle.std.proofs.Math.Option.{Option, none, some}
+use Rattle.std.specs.Prelude.{ℕ, zero, suc, ◌+◌, ◌*◌, ◌≤◌, ◌<◌, ◌≡◌, List, [], ◌∷◌, ◌++◌, length, get_or, replicate, take}
 use Rattle.limits.specs.Limits as most
-use Rattle.rules.specs.Lists.{pick}
 use Rattle.rules.specs.Graph as graph
 use Rattle.rules.specs.Records.{written}
+use Rattle.rules.proofs.Wholeness.{Whole}
 use Rattle.records.specs.declared.Blocks.{Blocks}
 use Rattle.records.specs.declared.Arms.{Arms}
 use Rattle.records.specs.declared.Graph.{Graph}
@@ -17,26 +16,6 @@ arm_at a q = record { to = get_or a.to q 0; args = get_or a.args q 0; weight = g
 unfoldable pub arms_from : Arms → ℕ → ℕ → List graph.Arm
 arms_from a f zero = []
 arms_from a f (suc n) = arm_at a f ∷ arms_from a (suc f) n
-
--- what is listed, by the tables that its records are made of
-abbrev pub only_blocks : List ℕ → List ℕ → List ℕ → List ℕ → Blocks
-only_blocks listed marks ends weight = record { place = []; listed = listed; marks = marks; ends = ends; weight = weight }
-
--- all of the blocks' tables
-abbrev pub block_tables : List ℕ → List ℕ → List ℕ → List ℕ → List ℕ → Blocks
-block_tables place listed marks ends weight = record { place = place; listed = listed; marks = marks; ends = ends; weight = weight }
-
--- numbers alone
-abbrev pub only_listed : List ℕ → Blocks
-only_listed listed = only_blocks listed [] [] []
-
--- arms without the blocks that they leave
-abbrev pub only_arms : List ℕ → List ℕ → List ℕ → Arms
-only_arms to args weight = record { first = []; count = []; to = to; args = args; weight = weight }
-
--- all of the arms' tables
-abbrev pub arm_tables : List ℕ → List ℕ → List ℕ → List ℕ → List ℕ → Arms
-arm_tables first count to args weight = record { first = first; count = count; to = to; args = args; weight = weight }
 
 -- the arms that leave block n
 unfoldable pub leaves : Arms → ℕ → List graph.Arm
@@ -80,6 +59,10 @@ no_arms =
       args = replicate most.arms 0;
       weight = replicate most.arms 0;
     }
+
+-- a graph with no block and no arm
+unfoldable pub empty : Graph
+empty = record { blocks = 0; arms = 0; b = no_blocks; a = no_arms }
 
 -- an entry for each number, or for each arm
 pub record BlocksSized (b : Blocks) : Type 0 where
@@ -142,11 +125,11 @@ pub record Stands (n m : ℕ) (t : Graph) (g : graph.Graph) : Type 0 where
   pub blocks_sized : BlocksSized t.b
   pub arms_sized : ArmsSized t.a
 
+-- The tables stand for a graph as the passes lend it: within the limits, and its arms go to blocks of its own.
+pub record Sound (t : Graph) : Type 0 where
+  pub stands : Stands most.numbers most.most_arms t (tabled t)
+  pub whole : Whole (tabled t)
+
 -- an order of blocks
 unfoldable pub in_order : Order → List ℕ
 in_order o = take o.len o.block
-
--- a block, or that there is none: numbers have no block past their room
-unfoldable pub optional : ℕ → Option ℕ
-unfolding pick
-optional n = pick (ltb n most.blocks) (some n) none

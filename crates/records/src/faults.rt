@@ -1,96 +1,55 @@
-// What is refused, by the few numbers that decide it: each function is a line or two of document 01's table.
+// What is refused, by the few numbers that decide it: each function is a line or two of document 01's table. Places are
+// counted from 1 and 0 says that there is none, since the rules' place_of and entry_of count so.
 ghost use Rattle.std.specs.Prelude.{◌≡◌, ◌<◌};
 ghost use Rattle.limits.specs.Limits.{arms};
 ghost use Rattle.rules.specs.Graph.{is_entry};
 ghost use Rattle.rules.specs.Refusals.{too_many};
-ghost use Rattle.records.specs.Faults.{block_fault, arm_fault, no_block, no_arm, entry_next, first_next};
+ghost use Rattle.records.specs.Faults.{block_fault, arm_fault, entry_next, first_next};
 
+use crate::bits;
 use limits::MOST_ARMS;
-use rules::Record;
+use rules::Fault;
 
+// By the name that the rules give it, as is_cold of `cold`: a call with the bit is no plainer.
+#[tactic(auto, unfolding(rules::specs::Graph::is_entry))]
 pub fn is_entry(marks: u8) -> bool
     ensures { result ≡ is_entry marks }
 {
-    marks % 2 == 1
+    bits::has_mark(marks, bits::ENTRY)
 }
 
 // Blocks by 5, 6: where the number is listed already, where the entry is, the marks.
 #[tactic(auto, unfolding(crate::specs::Faults::block_fault))]
-pub fn block_fault(place: usize, entry: usize, marks: u8) -> u64
+pub fn block_fault(place: usize, entry: usize, marks: u8) -> Option<Fault>
     ensures { result ≡ block_fault place entry marks }
 {
     if 0 < place {
-        return 5;
+        return Some(Fault::ListedBefore);
     }
-    if is_entry(marks) {
-        if 0 < entry {
-            return 6;
-        }
+    if is_entry(marks) && 0 < entry {
+        return Some(Fault::SecondEntry);
     }
-    0
+    None
 }
 
 // Arms by 7, 4, 8: where from and to are listed, where the last arm's from is, how many arms came before.
 #[tactic(auto, unfolding(crate::specs::Faults::arm_fault))]
-pub fn arm_fault(from: usize, to: usize, last: usize, arms: usize) -> u64
+pub fn arm_fault(from: usize, to: usize, last: usize, arms: usize) -> Option<Fault>
     ensures { result ≡ arm_fault from to last arms }
 {
-    if 0 < from {
-        if 0 < to {
-            if from < last {
-                return 4;
-            }
-            if MOST_ARMS <= arms {
-                return 8;
-            }
-            return 0;
-        }
+    if from == 0 || to == 0 {
+        return Some(Fault::NotListed);
     }
-    7
+    if from < last {
+        return Some(Fault::OutOfOrder);
+    }
+    if MOST_ARMS <= arms {
+        return Some(Fault::TooManyArms);
+    }
+    None
 }
 
-// Where blocks are read: an arm ends them, and a field outside the layout is refused.
-pub fn no_block(r: Record) -> u64
-    ensures { result ≡ no_block r }
-{
-    match r {
-        Record::Block {
-            number: _,
-            marks: _,
-            end: _,
-            weight: _,
-        } => 0,
-        Record::Arm {
-            from: _,
-            to: _,
-            args: _,
-            weight: _,
-        } => 0,
-        Record::Outside => 3,
-    }
-}
-
-// Where arms are read: a block comes too late.
-pub fn no_arm(r: Record) -> u64
-    ensures { result ≡ no_arm r }
-{
-    match r {
-        Record::Block {
-            number: _,
-            marks: _,
-            end: _,
-            weight: _,
-        } => 4,
-        Record::Arm {
-            from: _,
-            to: _,
-            args: _,
-            weight: _,
-        } => 4,
-        Record::Outside => 3,
-    }
-}
-
+#[tactic(auto, unfolding(crate::specs::Faults::entry_next))]
 pub fn entry_next(entry: usize, marks: u8, i: usize) -> usize
     requires { i < arms }
     ensures { result ≡ entry_next entry marks i }
@@ -99,6 +58,7 @@ pub fn entry_next(entry: usize, marks: u8, i: usize) -> usize
 }
 
 // The first arm of a block with `count` arms before, the first at `first`, when arm j is its next.
+#[tactic(auto, unfolding(crate::specs::Faults::first_next))]
 pub fn first_next(first: u16, count: u16, j: usize) -> u16
     requires { j < arms }
     ensures { result ≡ first_next first count j }
@@ -106,17 +66,13 @@ pub fn first_next(first: u16, count: u16, j: usize) -> u16
     if count == 0 { j as u16 } else { first }
 }
 
+#[tactic(auto, unfolding(rules::specs::Refusals::too_many))]
 pub fn too_many(end: u8, arms: usize) -> bool
     ensures { result ≡ too_many end arms }
 {
-    if end < 2 {
-        return 1 < arms;
+    match end {
+        0 | 1 => 1 < arms,
+        2 | 6 => 2 < arms,
+        _ => false,
     }
-    if end == 2 {
-        return 2 < arms;
-    }
-    if end == 6 {
-        return 2 < arms;
-    }
-    false
 }

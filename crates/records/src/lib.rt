@@ -2,13 +2,16 @@
 // `reader` fills the tables from a file, and `writer` makes a file of them.
 #![tactic(auto)]
 
-pub mod entry;
+pub mod bits;
 pub mod faults;
 pub mod fields;
 
+ghost use Rattle.std.specs.Prelude.{◌≡◌, ◌≤◌, ℕ, get_or};
+
 use limits::{ARMS, BLOCKS};
 
-// The blocks by number: where each is listed, counted from 1 (0: not listed), and what its record says.
+// The blocks by number: where each is listed, counted from 1 (0: not listed, as place_of of the rules counts), and what its
+// record says.
 // `listed` has the numbers by listed place.
 #[derive(Drop)]
 pub struct Blocks {
@@ -17,6 +20,33 @@ pub struct Blocks {
     pub marks: [u8; BLOCKS],
     pub ends: [u8; BLOCKS],
     pub weight: [u64; BLOCKS],
+}
+
+// What the tables say of block n, 0 past their end. Each reads its own table: one that is told which is no plainer.
+impl Blocks {
+    pub fn place_of(&self, n: u16) -> usize
+        ensures { result ≡ get_or self.now.place n 0 }
+    {
+        usize::from(lists::at(&self.place, n, 0))
+    }
+
+    pub fn marks_of(&self, n: u16) -> u8
+        ensures { result ≡ get_or self.now.marks n 0 }
+    {
+        lists::at(&self.marks, n, 0)
+    }
+
+    pub fn end_of(&self, n: u16) -> u8
+        ensures { result ≡ get_or self.now.ends n 0 }
+    {
+        lists::at(&self.ends, n, 0)
+    }
+
+    pub fn weight_of(&self, n: u16) -> u64
+        ensures { result ≡ get_or self.now.weight n 0 }
+    {
+        lists::at(&self.weight, n, 0)
+    }
 }
 
 // The arms in file order, and by block number the first that leaves it and how many do.
@@ -29,14 +59,72 @@ pub struct Arms {
     pub weight: [u64; ARMS],
 }
 
-// How many blocks and arms there are, and the tables. Contracts speak of these structs; the code holds each table as an
-// array of its own and lends it, which a struct cannot be.
+// What the tables say of the arms of block n, 0 past their end; one for each table, as for blocks.
+impl Arms {
+    pub fn first_of(&self, n: u16) -> usize
+        ensures { result ≡ get_or self.now.first n 0 }
+    {
+        usize::from(lists::at(&self.first, n, 0))
+    }
+
+    pub fn count_of(&self, n: u16) -> usize
+        ensures { result ≡ get_or self.now.count n 0 }
+    {
+        usize::from(lists::at(&self.count, n, 0))
+    }
+}
+
+// How many blocks and arms there are, and the tables.
 #[derive(Drop)]
 pub struct Graph {
     pub blocks: usize,
     pub arms: usize,
     pub b: Blocks,
     pub a: Arms,
+}
+
+impl Graph {
+    ghost use Rattle.limits.specs.Limits.{blocks};
+    ghost use Rattle.rules.specs.Graph.{entry, is_entry};
+    ghost use Rattle.records.specs.Tables.{empty, tabled};
+
+    // A graph with no block and no arm.
+    #[tactic(auto, unfolding(crate::specs::Tables::empty, crate::specs::Tables::no_blocks, crate::specs::Tables::no_arms))]
+    pub fn empty() -> Self
+        ensures { result ≡ empty }
+    {
+        Graph {
+            blocks: 0,
+            arms: 0,
+            b: Blocks {
+                place: [0; BLOCKS],
+                listed: [0; BLOCKS],
+                marks: [0; BLOCKS],
+                ends: [0; BLOCKS],
+                weight: [0; BLOCKS],
+            },
+            a: Arms {
+                first: [0; BLOCKS],
+                count: [0; BLOCKS],
+                to: [0; ARMS],
+                args: [0; ARMS],
+                weight: [0; ARMS],
+            },
+        }
+    }
+
+    // The first listed block with the entry mark: "There may be no entry."
+    pub fn entry(&self) -> Option<u16>
+        requires { self.now.blocks ≤ blocks }
+        ensures { result ≡ entry (tabled self.now) }
+    {
+        for &n in &self.b.listed[..self.blocks] {
+            if faults::is_entry(self.b.marks_of(n)) {
+                return Some(n);
+            }
+        }
+        None
+    }
 }
 
 // An order of blocks: the first `len` numbers.

@@ -1,9 +1,10 @@
 -- The heaviest arm of a block, the last on ties, arm by arm. Assumes nothing.
 use Prim.Native.Nat.{ℕ, suc, ◌+◌, ◌-◌, ◌≤◌, ◌<◌}
 use native.Mathlib.Omega.{arith}
-use mathlib.Core.Path.{◌≡◌, refl, sym, ap, ap₂, ◌∙◌}
+use mathlib.Core.Path.{◌≡◌, refl, ap, ◌∙◌}
 use mathlib.Core.Bool.{Bool}
-use mathlib.Core.Option.{Option, none, some}
+use mathlib.Core.List.{◌∷◌}
+use Rattle.std.specs.Prelude.{Option, None, Some}
 use lib.Dec.{leb}
 use lib.ListN.{get_or}
 use borrow.Author.Tests.{le-leb, lt-leb}
@@ -13,38 +14,43 @@ use Rattle.rules.specs.Rotate.{back_arm}
 use Rattle.records.specs.declared.Arms.{Arms}
 use Rattle.records.specs.declared.Blocks.{Blocks}
 use Rattle.records.specs.Tables.{arm_at, arms_from, leaves, block_at}
-use Rattle.flow.proofs.ScanLaws.{arms_step, arms_end}
 
 abbrev not_heavier : Arm → Arm → Bool
 not_heavier x y = leb x.weight y.weight
 
 module _ (a : Arms) where
-  -- the heaviest of arm b and of those from f on
+  -- the first of the arms from place q up to e
+  pub arms_next : (q e : ℕ) → q < e → arms_from a q (e - q) ≡ arm_at a q ∷ arms_from a (q + 1) (e - (q + 1))
+  unfolding arms_from
+  arms_next q e h = let m : e - q ≡ suc (e - (q + 1)) = omega arith in let k : suc q ≡ q + 1 = omega arith in
+      ap (arms_from a q) m ∙ ap (λ (i : ℕ). arm_at a q ∷ arms_from a i (e - (q + 1))) k
+
+  -- the heaviest of arm b and of those from place q up to e
   unfoldable pub heaviest : ℕ → ℕ → ℕ → Option Arm
-  heaviest b f n = best not_heavier (some (arm_at a b)) (arms_from a f n)
+  heaviest b q e = best not_heavier (Some (arm_at a b)) (arms_from a q (e - q))
 
-  module _ (b f i n : ℕ) (h : i < n) where
-    pub later : get_or a.weight b 0 ≤ get_or a.weight (f + i) 0 → heaviest (f + i) (f + (i + 1)) (n - (i + 1)) ≡ heaviest b (f + i) (n - i)
+  module _ (b q e : ℕ) (h : q < e) where
+    pub later : get_or a.weight b 0 ≤ get_or a.weight q 0 → heaviest q (q + 1) e ≡ heaviest b q e
     unfolding heaviest best arm_at
-    later k = rw (arms_step a f i n h, best, le-leb (get_or a.weight b 0) (get_or a.weight (f + i) 0) k)
+    later k = rw (arms_next q e h, best, le-leb (get_or a.weight b 0) (get_or a.weight q 0) k)
 
-    pub earlier : get_or a.weight (f + i) 0 < get_or a.weight b 0 → heaviest b (f + (i + 1)) (n - (i + 1)) ≡ heaviest b (f + i) (n - i)
+    pub earlier : get_or a.weight q 0 < get_or a.weight b 0 → heaviest b (q + 1) e ≡ heaviest b q e
     unfolding heaviest best arm_at
-    earlier k = rw (arms_step a f i n h, best, lt-leb (get_or a.weight b 0) (get_or a.weight (f + i) 0) k)
+    earlier k = rw (arms_next q e h, best, lt-leb (get_or a.weight b 0) (get_or a.weight q 0) k)
 
-  pub heaviest_end : (b f i n : ℕ) → n ≤ i → heaviest b f (n - i) ≡ some (arm_at a b)
-  unfolding heaviest best
-  heaviest_end b f i n h = rw (arms_end a f i n h, best) refl
+  pub heaviest_end : (b q e : ℕ) → e ≤ q → heaviest b q e ≡ Some (arm_at a b)
+  unfolding heaviest best arms_from
+  heaviest_end b q e h = let z : e - q ≡ 0 = omega arith in rw z refl
 
-  module _ (of : Blocks) (m f n : ℕ) (ef : f ≡ get_or a.first m 0) (en : n ≡ get_or a.count m 0) where
-    pub back_none : n ≡ 0 → back_arm (block_at of a m) ≡ none
+  module _ (of : Blocks) (n f e : ℕ) (ef : f ≡ get_or a.first n 0) (ee : e ≡ f + get_or a.count n 0) where
+    pub back_none : f ≡ e → back_arm (block_at of a n) ≡ None
     unfolding back_arm block_at leaves arms_from best
-    back_none h = rw (← ef, ← en, h) refl
+    back_none h = let z : get_or a.count n 0 ≡ 0 = omega arith in rw z refl
 
-    pub back_some : 0 < n → heaviest f (f + 1) (n - 1) ≡ back_arm (block_at of a m)
-    unfolding heaviest back_arm block_at leaves arms_from best
+    pub back_some : f < e → heaviest f (f + 1) e ≡ back_arm (block_at of a n)
+    unfolding heaviest back_arm block_at leaves best
     back_some h =
-        let k : n ≡ suc (n - 1) = omega (arith, h) in
-        let z : f + 1 ≡ suc f = omega arith in
-        sym (ap (λ (x : ℕ). best not_heavier none (arms_from a f x)) k ∙ ap (λ (x : ℕ). best not_heavier (some (arm_at a f)) (arms_from a x (n - 1))) (sym z))
-        ∙ ap₂ (λ (x y : ℕ). best not_heavier none (arms_from a x y)) ef en
+        let z : e - f ≡ get_or a.count n 0 = omega arith in
+        rw (← ef, ← z, arms_next f e h, best) refl
+
+pub ruleset back_steps = (later, earlier, heaviest_end, back_none, back_some)

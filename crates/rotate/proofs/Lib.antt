@@ -1,5 +1,4 @@
 pub mod PlaceLaws
 pub mod BackLaws
 pub mod OutLaws
-pub mod TurnLaws
 pub mod RotateLaws

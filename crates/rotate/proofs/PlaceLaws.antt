@@ -1,118 +1,104 @@
--- The places of a trace in an order, gone through one by one: a search, a test of each, a set of them. Assumes nothing.
-use Prim.Native.Nat.{ℕ, ◌+◌, ◌-◌, ◌≤◌, ◌<◌}
+-- The blocks of a trace, gone through one by one: a search, a test of each, a set of them. Assumes nothing.
+use Prim.Native.Nat.{ℕ, suc, ◌+◌, ◌-◌, ◌<◌}
+use Prim.Native.Nat.compare
 use native.Mathlib.Numerals.{add-one}
 use native.Mathlib.Omega.{arith}
 use mathlib.Core.Path.{◌≡◌, refl, sym, ap, ◌∙◌, subst}
-use mathlib.Core.Bool.{Bool, true, false, ◌||◌}
-use mathlib.Core.Logic.{inl}
-use mathlib.Core.List.{List, [], ◌∷◌, ◌++◌, append_assoc, append-nil}
-use lib.Dec.{eqb}
-use lib.ListN.{length, get_or, take, drop, take-append-drop}
-use lib.Seq.{slice, slice-cons, slice_empty, take-suc, take-take, drop-append-le, length-take-le}
-use borrow.Author.Tests.{lt-ltb, le-ltb, eq-eqb, ne_eqb}
+use mathlib.Core.Bool.{Bool, true, false, not, cond, ◌||◌}
+use mathlib.Core.List.{List, [], ◌∷◌, ◌++◌}
+use Rattle.std.specs.Prelude.{◌==◌, Option, None, Some}
+use Rattle.std.proofs.lemmas.Option.{slice_get-get_or, slice_get_within, get_or_from_slice_get}
+use Rattle.std.specs.List.{slice_get, position, position_or_len, list_any}
+use lib.Dec.{eqb, ltb}
+use lib.ListN.{length, get_or, take, drop}
+use lib.Seq.{take-suc}
+use borrow.Author.Tests.{lt-ltb, ltb-true}
 use Rattle.rules.specs.Lists.{any, last_or, mem}
 use Rattle.rules.specs.Rotate.{lead_in, cycle}
-use Rattle.rules.proofs.Membership.{In, In-right}
-use Rattle.marks.specs.Sets.{member}
+use Rattle.rules.proofs.Membership.{In}
 use Rattle.marks.proofs.SetLaws.{eqb_turn}
-use Rattle.rotate.specs.Turning.{Finds}
+use Rattle.flow.proofs.PartLaws.{get_in, last_get}
 
--- ---- parts of an order
-pub slice_step : (o : List ℕ) (i e : ℕ) → i < e → e ≤ length o → slice i e o ≡ get_or o i 0 ∷ slice (i + 1) e o
-slice_step o i e h le = rw add-one (slice-cons i e o 0 h le)
+-- the last block, if there is one
+abbrev pub last_of : List ℕ → Option ℕ
+last_of l = slice_get l (length l - 1)
 
-slice_more : (o : List ℕ) (s i : ℕ) → s ≤ i → i < length o → slice s (i + 1) o ≡ slice s i o ++ (get_or o i 0 ∷ [])
-slice_more o s i h lt =
-    let l : s ≤ length (take i o) = omega (arith, length-take-le i o (omega arith)) in
-    rw (add-one, take-suc o i 0 lt) (drop-append-le s (take i o) (get_or o i 0 ∷ []) l)
+pub no_last : (l : List ℕ) → last_of l ≡ None → l ≡ []
+no_last [] e = refl
+no_last (x ∷ l) e =
+    absurd (let z : Some (get_or (x ∷ l) (length (x ∷ l) - 1) 0) ≡ None = sym (slice_get-get_or (x ∷ l) (length (x ∷ l) - 1) 0 (omega arith)) ∙ e in
+    let y : ◌≡◌ {A = ℕ} 0 1 = cc in omega arith)
 
-pub cut : (o : List ℕ) (s p e : ℕ) → s ≤ p → p ≤ e → e ≤ length o → slice s p o ++ slice p e o ≡ slice s e o
-cut o s p e h k le =
-    let l : s ≤ length (take p (take e o)) = omega (arith, length-take-le e o le, length-take-le p (take e o) (omega (arith, length-take-le e o le))) in
-    ap (λ (x : List ℕ). drop s x ++ slice p e o) (sym (take-take p e o k)) ∙ sym (drop-append-le s (take p (take e o)) (drop p (take e o)) l) ∙ ap (drop s) (take-append-drop p (take e o))
+module _ (l : List ℕ) (b : ℕ) (e : last_of l ≡ Some b) where
+  some : 0 < length l
+  some = omega (arith, slice_get_within l (length l - 1) b e)
 
-pub fore : (o : List ℕ) (s p : ℕ) → s ≤ p → take s o ++ slice s p o ≡ take p o
-fore o s p h = ap (λ (x : List ℕ). x ++ slice s p o) (sym (take-take s p o h)) ∙ take-append-drop s (take p o)
+  pub last_is : (d : ℕ) → last_or d l ≡ b
+  last_is d = last_get d l some ∙ get_or_from_slice_get l (length l - 1) b 0 e
 
-pub place_in : (o : List ℕ) (s i e : ℕ) → s ≤ i → i < e → e ≤ length o → In (get_or o i 0) (slice s e o)
-place_in o s i e h k le =
-    subst (In (get_or o i 0)) (cut o s i e h (omega arith) le)
-    (In-right (get_or o i 0) (slice s i o) (slice i e o) (subst (In (get_or o i 0)) (sym (slice_step o i e k le)) (inl refl)))
-
-last_snoc : (d : ℕ) (l : List ℕ) (b : ℕ) → last_or d (l ++ (b ∷ [])) ≡ b
-unfolding last_or
-last_snoc d [] b = refl
-last_snoc d (x ∷ []) b = refl
-last_snoc d (x ∷ y ∷ l) b = last_snoc d (y ∷ l) b
-
-pub last_is : (d : ℕ) (o : List ℕ) (s e : ℕ) → s < e → e ≤ length o → last_or d (slice s e o) ≡ get_or o (e - 1) 0
-last_is d o s e h le =
-    let n : e - 1 + 1 ≡ e = omega arith in
-    ap (λ (x : ℕ). last_or d (slice s x o)) (sym n) ∙ ap (last_or d) (slice_more o s (e - 1) (omega arith) (omega arith)) ∙ last_snoc d (slice s (e - 1) o) (get_or o (e - 1) 0)
+  pub last_in : In b l
+  last_in = subst (λ (x : ℕ). In x l) (get_or_from_slice_get l (length l - 1) b 0 e) (get_in l (length l - 1) (omega (arith, some)))
 
 -- ---- a search
-pub record Seek (o : List ℕ) (s e x i : ℕ) : Type 0 where
-  pub low : s ≤ i
-  pub high : i ≤ e
-  pub has : mem x (slice s e o) ≡ mem x (slice i e o)
-  pub ahead : lead_in x (slice s e o) ≡ slice s i o ++ lead_in x (slice i e o)
-  pub from : cycle x (slice s e o) ≡ cycle x (slice i e o)
+module _ (x : ℕ) where
+  abbrev place : List ℕ → ℕ
+  place l = position_or_len (λ (y : ℕ). y == x) l
 
-pub seek_start : (o : List ℕ) (s e x : ℕ) → s ≤ e → Seek o s e x s
-seek_start o s e x h =
-    record { low = omega arith; high = h; has = refl; ahead = ap (λ (l : List ℕ). l ++ lead_in x (slice s e o)) (sym (slice_empty s o)); from = refl }
+  place_mem : (l : List ℕ) → mem x l ≡ ltb (place l) (length l)
+  unfolding mem any
+  place_mem [] = refl
+  place_mem (y ∷ l) = go (eqb y x) (place_mem l)
+    where
+      go : (b : Bool) → mem x l ≡ ltb (place l) (length l) → b || mem x l ≡ ltb (cond (not b) (1 + place l) 0) (suc (length l))
+      go true e = sym (lt-ltb 0 (suc (length l)) (omega arith))
+      go false e = let z : 1 + place l ≡ suc (place l) = omega arith in rw z (rw (compare.suc-suc (suc (place l)) (length l)) e)
 
-module _ (o : List ℕ) (s e x i : ℕ) (k : Seek o s e x i) (lt : i < e) (le : e ≤ length o) where
-  pub seek_hit : get_or o i 0 ≡ x → Finds o s e x i
-  unfolding mem any lead_in cycle
-  seek_hit h =
-      let c = slice_step o i e lt le in
-      let t = eq-eqb (get_or o i 0) x h in
-      record {
-        low = k.low;
-        high = k.high;
-        found = k.has ∙ rw (c, mem, any, t) (sym (lt-ltb i e lt));
-        before = k.ahead ∙ rw (c, lead_in, t) (append-nil (slice s i o));
-        from = k.from ∙ rw (c, cycle, t) refl;
-      }
+  place_lead : (l : List ℕ) → lead_in x l ≡ take (place l) l
+  unfolding lead_in
+  place_lead [] = refl
+  place_lead (y ∷ l) = go (eqb y x) (place_lead l)
+    where
+      go : (b : Bool) → lead_in x l ≡ take (place l) l → (elim b as (λ (c : Bool). List ℕ) [ true ↦ [] | false ↦ y ∷ lead_in x l ]) ≡ take (cond (not b) (1 + place l) 0) (y ∷ l)
+      go true e = refl
+      go false e = let z : 1 + place l ≡ suc (place l) = omega arith in rw z (ap (λ (k : List ℕ). y ∷ k) e)
 
-  pub seek_on : (get_or o i 0 ≡ x → ⊥) → Seek o s e x (i + 1)
-  unfolding mem any lead_in cycle
-  seek_on h =
-      let c = slice_step o i e lt le in
-      let t = ne_eqb (get_or o i 0) x h in
-      record {
-        low = omega (arith, k.low);
-        high = omega arith;
-        has = k.has ∙ rw (c, mem, any, t);
-        ahead = k.ahead ∙ rw (c, lead_in, t) (rw (slice_more o s i k.low (omega arith), append_assoc));
-        from = k.from ∙ rw (c, cycle, t);
-      }
+  place_cycle : (l : List ℕ) → cycle x l ≡ drop (place l) l
+  unfolding cycle
+  place_cycle [] = refl
+  place_cycle (y ∷ l) = go (eqb y x) (place_cycle l)
+    where
+      go : (b : Bool) → cycle x l ≡ drop (place l) l → (elim b as (λ (c : Bool). List ℕ) [ true ↦ y ∷ l | false ↦ cycle x l ]) ≡ drop (cond (not b) (1 + place l) 0) (y ∷ l)
+      go true e = refl
+      go false e = let z : 1 + place l ≡ suc (place l) = omega arith in rw z e
 
-pub seek_none : (o : List ℕ) (s e x : ℕ) → Seek o s e x e → Finds o s e x e
-unfolding mem any lead_in cycle
-seek_none o s e x k =
-    record {
-      low = k.low;
-      high = k.high;
-      found = k.has ∙ rw (slice_empty e o, mem, any) (sym (le-ltb e e (omega arith)));
-      before = k.ahead ∙ rw (slice_empty e o, lead_in) (append-nil (slice s e o));
-      from = k.from ∙ rw (slice_empty e o, cycle) refl;
-    }
+  -- what the place says that is found
+  pub record Found (l : List ℕ) (p : ℕ) : Type 0 where
+    pub inside : p < length l
+    pub has : mem x l ≡ true
+    pub before : lead_in x l ≡ take p l
+    pub from : cycle x l ≡ drop p l
+
+  pub found_at : (l : List ℕ) (p : ℕ) → position (λ (y : ℕ). y == x) l ≡ Some p → Found l p
+  found_at l p e = go (ltb (place l) (length l)) refl e
+    where
+      go : (b : Bool) → ltb (place l) (length l) ≡ b → cond b (Some (place l)) None ≡ Some p → Found l p
+      go true t q =
+          let z : place l ≡ p = cc in
+          record { inside = omega (arith, ltb-true _ _ t, z); has = place_mem l ∙ t; before = place_lead l ∙ ap (λ (k : ℕ). take k l) z; from = place_cycle l ∙ ap (λ (k : ℕ). drop k l) z }
+      go false t q = absurd (let z : ◌≡◌ {A = ℕ} 0 1 = cc in omega arith)
+
+  pub found_none : (l : List ℕ) → position (λ (y : ℕ). y == x) l ≡ None → mem x l ≡ false
+  found_none l e = go (ltb (place l) (length l)) refl e
+    where
+      go : (b : Bool) → ltb (place l) (length l) ≡ b → ◌≡◌ {A = Option ℕ} (cond b (Some (place l)) None) None → mem x l ≡ false
+      go true t q = absurd (let z : ◌≡◌ {A = ℕ} 0 1 = cc in omega arith)
+      go false t q = place_mem l ∙ t
 
 -- ---- a test of each
-module _ (p : ℕ → Bool) (o : List ℕ) (i e : ℕ) (lt : i < e) (le : e ≤ length o) where
-  pub any_hit : p (get_or o i 0) ≡ true → any p (slice i e o) ≡ true
-  unfolding any
-  any_hit t = rw (slice_step o i e lt le, any, t)
-
-  pub any_on : p (get_or o i 0) ≡ false → any p (slice (i + 1) e o) ≡ any p (slice i e o)
-  unfolding any
-  any_on t = rw (slice_step o i e lt le, any, t)
-
-pub any_none : (p : ℕ → Bool) (o : List ℕ) (e : ℕ) → any p (slice e e o) ≡ false
+pub any_is : (p : ℕ → Bool) (l : List ℕ) → any p l ≡ list_any p l
 unfolding any
-any_none p o e = rw (slice_empty e o) refl
+any_is p [] = refl
+any_is p (x ∷ l) = ap (λ (b : Bool). p x || b) (any_is p l)
 
 -- ---- a set of them
 mem_snoc : (m b : ℕ) (l : List ℕ) → mem m (l ++ (b ∷ [])) ≡ eqb m b || mem m l
@@ -125,11 +111,5 @@ mem_snoc m b (x ∷ l) = ap (λ (t : Bool). eqb x m || t) (mem_snoc m b l) ∙ t
     turn true false c = refl
     turn false b c = refl
 
-pub marks_start : (o s : List ℕ) (p : ℕ) → ((m : ℕ) → member s m ≡ false) → (m : ℕ) → member s m ≡ mem m (slice p p o)
-unfolding mem any
-marks_start o s p h m = h m ∙ sym (rw (slice_empty p o) refl)
-
-pub marks_more : (o s t : List ℕ) (p i : ℕ) → p ≤ i → i < length o → ((m : ℕ) → member s m ≡ mem m (slice p i o)) → ((m : ℕ) → member t m ≡ eqb m (get_or o i 0) || member s m)
-    → (m : ℕ) → member t m ≡ mem m (slice p (i + 1) o)
-marks_more o s t p i h lt k w m =
-    w m ∙ ap (λ (b : Bool). eqb m (get_or o i 0) || b) (k m) ∙ sym (ap (mem m) (slice_more o p i h lt) ∙ mem_snoc m (get_or o i 0) (slice p i o))
+pub mem_more : (m : ℕ) (l : List ℕ) (i : ℕ) → i < length l → mem m (take (i + 1) l) ≡ eqb m (get_or l i 0) || mem m (take i l)
+mem_more m l i h = rw (add-one, take-suc l i 0 h) (mem_snoc m (get_or l i 0) (take i l))

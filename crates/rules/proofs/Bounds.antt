@@ -6,7 +6,7 @@ use mathlib.Core.Path.{◌≡◌, refl, sym, ap, subst}
 use mathlib.Core.Bool.{Bool, true, false, not, ◌&&◌, ◌||◌, cond}
 use mathlib.Core.Logic.{inl, inr, ⊎_elim}
 use mathlib.Core.List.{List, [], ◌∷◌, ◌++◌, map, append-nil}
-use mathlib.Core.Option.{Option, none, some}
+use Rattle.std.specs.Prelude.{Option, None, Some}
 use lib.ListN.{length}
 use borrow.Author.Tests.{eqb-false}
 use Rattle.limits.specs.Limits.{numbers, marks_below}
@@ -87,9 +87,9 @@ cleared_marks goals h b l = go (goals b.number)
     step true = l
     step false = dead (is_dead b.marks) refl
 
-    go : (o : Option ℕ) → (elim o as (λ (x : Option ℕ). graph.Block) [ none ↦ b | some m ↦ elim (entered h b.number || is_addressed b.marks) as (λ (x : Bool). graph.Block) [ true ↦ b | false ↦ bare ] ]).marks < marks_below
-    go none = l
-    go (some m) = step (entered h b.number || is_addressed b.marks)
+    go : (o : Option ℕ) → (elim o as (λ (x : Option ℕ). graph.Block) [ None ↦ b | Some m ↦ elim (entered h b.number || is_addressed b.marks) as (λ (x : Bool). graph.Block) [ true ↦ b | false ↦ bare ] ]).marks < marks_below
+    go None = l
+    go (Some m) = step (entered h b.number || is_addressed b.marks)
 
 forward_marks : (g : Graph) → MarksLow g → MarksLow (forward g)
 unfolding forward moved_all
@@ -194,9 +194,9 @@ cleared_count goals h b = go (goals b.number)
     step true = omega arith
     step false = omega arith
 
-    go : (o : Option ℕ) → length (elim o as (λ (x : Option ℕ). graph.Block) [ none ↦ b | some m ↦ elim (entered h b.number || is_addressed b.marks) as (λ (x : Bool). graph.Block) [ true ↦ b | false ↦ bare ] ]).arms ≤ length b.arms
-    go none = omega arith
-    go (some m) = step (entered h b.number || is_addressed b.marks)
+    go : (o : Option ℕ) → length (elim o as (λ (x : Option ℕ). graph.Block) [ None ↦ b | Some m ↦ elim (entered h b.number || is_addressed b.marks) as (λ (x : Bool). graph.Block) [ true ↦ b | false ↦ bare ] ]).arms ≤ length b.arms
+    go None = omega arith
+    go (Some m) = step (entered h b.number || is_addressed b.marks)
 
 mapped_total : (f : graph.Block → graph.Block) → ((b : graph.Block) → length (f b).arms ≤ length b.arms) → (g : Graph) → arm_total (map f g) ≤ arm_total g
 unfolding arm_total

@@ -7,7 +7,7 @@ use mathlib.Core.Path.{◌≡◌, refl, sym, ap, ◌∙◌, subst}
 use mathlib.Core.Bool.{Bool, true, false, not, ◌&&◌, ◌||◌}
 use mathlib.Core.Logic.{◌⊎◌, inl, inr, ⊎_elim}
 use mathlib.Core.List.{List, [], ◌∷◌, ◌++◌, map, append_assoc, append-nil}
-use mathlib.Core.Option.{none, some}
+use Rattle.std.specs.Prelude.{None, Some}
 use lib.Dec.{T, eqb, leb, ltb, T_not, not_T, leb→le, le→leb, eqb→eq, eqb_refl, ltb→lt, nltb→le, lt→ltb}
 use lib.ListN.{get_or}
 use Rattle.limits.specs.Limits.{blocks}
@@ -35,7 +35,7 @@ pub record Greatest {A : Type 0} (less : A → A → Bool) (l : List A) (x : A) 
 module _ {A : Type 0} (less : A → A → Bool) (k : Ranks less) where
   -- the best so far, with what came before it and after it
   from_best : (b : A) (pre mid l : List A) → ((y : A) → In y pre → T (less y b)) → ((y : A) → In y mid → T (not (less b y))) → (x : A)
-      → best less (some b) l ≡ some x → Greatest less (pre ++ b ∷ (mid ++ l)) x
+      → best less (Some b) l ≡ Some x → Greatest less (pre ++ b ∷ (mid ++ l)) x
   unfolding best
   from_best b pre mid [] h m x e =
       let q : b ≡ x = cc in
@@ -46,8 +46,8 @@ module _ {A : Type 0} (less : A → A → Bool) (k : Ranks less) where
       R : Type 0
       R = Greatest less (pre ++ b ∷ (mid ++ y ∷ l)) x
 
-      go : ((c : A) (p n : List A) → ((z : A) → In z p → T (less z c)) → ((z : A) → In z n → T (not (less c z))) → best less (some c) l ≡ some x → Greatest less (p ++ c ∷ (n ++ l)) x)
-          → (t : Bool) → less b y ≡ t → best less (elim t [ true ↦ some y | false ↦ some b ]) l ≡ some x → R
+      go : ((c : A) (p n : List A) → ((z : A) → In z p → T (less z c)) → ((z : A) → In z n → T (not (less c z))) → best less (Some c) l ≡ Some x → Greatest less (p ++ c ∷ (n ++ l)) x)
+          → (t : Bool) → less b y ≡ t → best less (elim t [ true ↦ Some y | false ↦ Some b ]) l ≡ Some x → R
       go ih true q e =
           let up : T (less b y) = rw q tt in
           let r = ih y (pre ++ b ∷ mid) []
@@ -59,7 +59,7 @@ module _ {A : Type 0} (less : A → A → Bool) (k : Ranks less) where
           (λ z i. ⊎_elim (λ j. m z j) (λ j. ⊎_elim (λ w. subst (λ (v : A). T (not (less b v))) (sym w) (rw q tt)) (λ w. absurd w) j) (append-In z mid (y ∷ []) i)) e in
           subst (λ (s : List A). Greatest less s x) (ap (λ (s : List A). pre ++ b ∷ s) (append_assoc mid (y ∷ []) l)) r
 
-  pub best_greatest : (l : List A) (x : A) → best less none l ≡ some x → Greatest less l x
+  pub best_greatest : (l : List A) (x : A) → best less None l ≡ Some x → Greatest less l x
   unfolding best
   best_greatest [] x e = absurd (let z : ◌≡◌ {A = ℕ} 0 1 = cc in omega arith)
   best_greatest (y ∷ l) x e = from_best y [] [] l (λ z i. absurd i) (λ z i. absurd i) x e
@@ -145,29 +145,29 @@ unfolding looser lex
 looser_ranks = lex_ranks (λ (k : Link). k.weight) _ (lex_ranks (λ (k : Link). k.long) _ (more_ranks (λ (k : Link). k.index)))
 
 -- ---- THE THEOREM: `o` is the plain order
-pub start_rule : (g : Graph) (o laid : List ℕ) (low : ℕ) (e : Seed) → next_seed g o laid low ≡ some e
+pub start_rule : (g : Graph) (o laid : List ℕ) (low : ℕ) (e : Seed) → next_seed g o laid low ≡ Some e
     → Greatest below (map (seed_of g laid) (keep (startable g laid low) o)) e
 unfolding next_seed
 start_rule g o laid low e q = best_greatest below below_ranks (map (seed_of g laid) (keep (startable g laid low) o)) e q
 
 -- "the heaviest arm, first on ties" of those that fit
-pub extend_rule : (g : Graph) (laid : List ℕ) (likely low : ℕ) (b : Block) (a : Arm) → along g laid likely low b ≡ some a
+pub extend_rule : (g : Graph) (laid : List ℕ) (likely low : ℕ) (b : Block) (a : Arm) → along g laid likely low b ≡ Some a
     → Greatest lighter (keep (fits g laid likely low b) b.arms) a
 unfolding along
 extend_rule g laid likely low b a q = best_greatest lighter (less_ranks (λ (a : Arm). a.weight)) (keep (fits g laid likely low b) b.arms) a q
 
 -- "the last block's heaviest arm, LAST on ties": those before it are not heavier, those after it are lighter
-pub back_rule : (b : Block) (a : Arm) → back_arm b ≡ some a → Greatest (λ (x y : Arm). leb x.weight y.weight) b.arms a
+pub back_rule : (b : Block) (a : Arm) → back_arm b ≡ Some a → Greatest (λ (x y : Arm). leb x.weight y.weight) b.arms a
 unfolding back_arm
 back_rule b a q = best_greatest (λ (x y : Arm). leb x.weight y.weight) (most_ranks (λ (a : Arm). a.weight)) b.arms a q
 
 -- "prefer targets unlaid or starting an earlier trace (as turned), then weight, then first"
-pub way_out_rule : (g : Graph) (preferred : ℕ → Bool) (part : List ℕ) (w : WayOut) → best worse none (ways_out g preferred part 0 part) ≡ some w
+pub way_out_rule : (g : Graph) (preferred : ℕ → Bool) (part : List ℕ) (w : WayOut) → best worse None (ways_out g preferred part 0 part) ≡ Some w
     → Greatest worse (ways_out g preferred part 0 part) w
 way_out_rule g preferred part w q = best_greatest worse worse_ranks (ways_out g preferred part 0 part) w q
 
 -- "heaviest, then longer trace, then earlier"
-pub link_rule : (g : Graph) (ts : List (List ℕ)) (used : List ℕ) (i : ℕ) (k : Link) → next_trace g ts used i ≡ some k
+pub link_rule : (g : Graph) (ts : List (List ℕ)) (used : List ℕ) (i : ℕ) (k : Link) → next_trace g ts used i ≡ Some k
     → Greatest looser (links g ts used (cold_at g (last_or blocks (get_or ts i []))) (block_at g (last_or blocks (get_or ts i []))).arms) k
 unfolding next_trace
 link_rule g ts used i k q =

@@ -6,7 +6,7 @@ use mathlib.Core.Path.{◌≡◌, sym, subst}
 use mathlib.Core.Bool.{Bool, true, false, not}
 use mathlib.Core.Logic.{◌↔◌}
 use mathlib.Core.List.{List}
-use mathlib.Core.Option.{some}
+use Rattle.std.specs.Prelude.{Some}
 use lib.Dec.{T}
 use lib.ListN.{length, get_or}
 use Rattle.limits.specs.Limits.{numbers}
@@ -67,7 +67,7 @@ module _ (g : Graph) (forwarding reorder : Bool) where
     pub bridge_directly_after : (n : ℕ) → In n (bridges_in places) → After places n
     pub bridge_entered_once : (n : ℕ) → numbers ≤ n → n < numbers + bridges places → count n (targets_in places) ≡ 1
     -- the entry is first
-    pub entry_is_first : (e : ℕ) → entry g ≡ some e → BeginsPlace e places
+    pub entry_is_first : (e : ℕ) → entry g ≡ Some e → BeginsPlace e places
     -- with a split warm comes first, each part in its order; without one nothing moves
     pub parts : T (splits from) → Parts from in_order
     pub undivided : T (not (splits from)) → Undivided from in_order

@@ -5,7 +5,7 @@ use mathlib.Core.Path.{◌≡◌, refl, sym, ap, ◌∙◌, subst}
 use mathlib.Core.Bool.{Bool, true, false, not, ◌&&◌, ◌||◌, cond, true≢false}
 use mathlib.Core.Logic.{inl}
 use mathlib.Core.List.{List, [], ◌∷◌, ◌++◌, map, reverse, reverse-cons, append_assoc}
-use mathlib.Core.Option.{Option, none, some}
+use Rattle.std.specs.Prelude.{Option, None, Some}
 use lib.Dec.{T, eqb}
 use lib.ListN.{length, get_or}
 use Rattle.limits.specs.Limits.{blocks}
@@ -39,7 +39,7 @@ begins_append n [] t h = absurd h
 begins_append n (x ∷ s) t h = h
 
 -- ---- the plain order
-pub plain_first : (g : Graph) (e : ℕ) → entry g ≡ some e → Begins e (order g)
+pub plain_first : (g : Graph) (e : ℕ) → entry g ≡ Some e → Begins e (order g)
 unfolding order visit mem any entry
 plain_first [] e q = absurd (let z : ◌≡◌ {A = ℕ} 0 1 = cc in omega arith)
 plain_first (b ∷ g) e q = subst (λ (o : Option ℕ). Begins e (from o)) (sym q) (begins_append e walk.done rest refl)
@@ -58,8 +58,8 @@ plain_first (b ∷ g) e q = subst (λ (o : Option ℕ). Begins e (from o)) (sym 
 
     from : Option ℕ → List ℕ
     from o = elim o as (λ (x : Option ℕ). List ℕ) [
-      | none ↦ numbers_of h
-      | some e ↦
+      | None ↦ numbers_of h
+      | Some e ↦
           let w = visit h (length h) start e in
           w.done ++ keep (λ (n : ℕ). not (mem n w.seen)) (numbers_of h)
     ]
@@ -70,9 +70,9 @@ unfolding extend
 extended_first g likely low zero laid n = refl
 extended_first g likely low (suc k) laid n = go (along g (n ∷ laid) likely low (block_at g n))
   where
-    go : (o : Option Arm) → Begins n (elim o as (λ (x : Option Arm). List ℕ) [ none ↦ n ∷ [] | some a ↦ n ∷ extend g likely low k (n ∷ laid) a.to ])
-    go none = refl
-    go (some a) = refl
+    go : (o : Option Arm) → Begins n (elim o as (λ (x : Option Arm). List ℕ) [ None ↦ n ∷ [] | Some a ↦ n ∷ extend g likely low k (n ∷ laid) a.to ])
+    go None = refl
+    go (Some a) = refl
 
 -- what is before another block of the trace begins as the trace does
 lead_first : (n m : ℕ) (t : List ℕ) → Begins n t → T (not (eqb n m)) → Begins n (lead_in m t)
@@ -93,12 +93,12 @@ turn_target g last a t y =
     let w = not (any (λ (n : ℕ). is_walking (block_at g n).marks) (cycle a.to t)) in
     and_r p n (and_l (p && n) v (and_l (p && n && v) w y))
 
-other_block : (e m : ℕ) → T (not (names (some e) m)) → T (not (eqb e m))
+other_block : (e m : ℕ) → T (not (names (Some e) m)) → T (not (eqb e m))
 unfolding names
 other_block e m t = t
 
 -- a trace from the entry is not turned at the entry
-rotated_first : (g : Graph) (e : ℕ) → entry g ≡ some e → (laid starts t : List ℕ) → Begins e t → Begins e (rotate g laid starts t)
+rotated_first : (g : Graph) (e : ℕ) → entry g ≡ Some e → (laid starts t : List ℕ) → Begins e t → Begins e (rotate g laid starts t)
 unfolding rotate
 rotated_first g e q laid starts t h = go (back_arm (block_at g (last_or blocks t)))
   where
@@ -117,9 +117,9 @@ rotated_first g e q laid starts t h = go (back_arm (block_at g (last_or blocks t
         begins_append e (lead_in a.to t) (turned g liked (cycle a.to t))
         (lead_first e a.to t h (other_block e a.to (subst (λ (o : Option ℕ). T (not (names o a.to))) q (not_entry a (rw z tt)))))
 
-    go : (o : Option Arm) → Begins e (elim o as (λ (c : Option Arm). List ℕ) [ none ↦ t | some a ↦ elim (turns g (last_or blocks t) a t) as (λ (c : Bool). List ℕ) [ false ↦ t | true ↦ whole a ] ])
-    go none = h
-    go (some a) = step a (turns g (last_or blocks t) a t) refl
+    go : (o : Option Arm) → Begins e (elim o as (λ (c : Option Arm). List ℕ) [ None ↦ t | Some a ↦ elim (turns g (last_or blocks t) a t) as (λ (c : Bool). List ℕ) [ false ↦ t | true ↦ whole a ] ])
+    go None = h
+    go (Some a) = step a (turns g (last_or blocks t) a t) refl
 
 -- ---- the first of the traces found
 abbrev pub BeginsAll : ℕ → List (List ℕ) → Type 0
@@ -136,16 +136,16 @@ fill_first g o n likely low zero s h = h
 fill_first g o n likely low (suc k) s h = go (fill_first g o n likely low k) (next_seed g o s.laid low)
   where
     go : ((t : Traced) → BeginsAll n t.found → BeginsAll n (fill g o likely low k t).found) → (e : Option Seed)
-        → BeginsAll n (elim e as (λ (x : Option Seed). Traced) [ none ↦ s | some e ↦ fill g o likely low k (trace_from g likely low s e.block) ]).found
-    go ih none = h
-    go ih (some e) = ih (trace_from g likely low s e.block) (more_traces n s.found _ h)
+        → BeginsAll n (elim e as (λ (x : Option Seed). Traced) [ None ↦ s | Some e ↦ fill g o likely low k (trace_from g likely low s e.block) ]).found
+    go ih None = h
+    go ih (Some e) = ih (trace_from g likely low s e.block) (more_traces n s.found _ h)
 
 rounds_first : (g : Graph) (n : ℕ) (l : List Round) (s : Traced) → BeginsAll n s.found → BeginsAll n (foldl (in_round g) s l).found
 unfolding foldl in_round
 rounds_first g n [] s h = h
 rounds_first g n (r ∷ l) s h = rounds_first g n l (in_round g s r) (fill_first g (order g) n r.likely (floor_of g r.often) (length g) s h)
 
-pub traces_first : (g : Graph) (e : ℕ) → entry g ≡ some e → BeginsAll e (traces g)
+pub traces_first : (g : Graph) (e : ℕ) → entry g ≡ Some e → BeginsAll e (traces g)
 unfolding traces entry_trace trace_from no_traces
 traces_first g e q =
     rounds_first g e rounds (entry_trace g)
@@ -155,7 +155,7 @@ traces_first g e q =
     t = extend g round_one.likely (floor_of g round_one.often) (length g) [] e
 
     from : Option ℕ → Traced
-    from o = elim o as (λ (x : Option ℕ). Traced) [ none ↦ no_traces | some e ↦ trace_from g round_one.likely (floor_of g round_one.often) no_traces e ]
+    from o = elim o as (λ (x : Option ℕ). Traced) [ None ↦ no_traces | Some e ↦ trace_from g round_one.likely (floor_of g round_one.often) no_traces e ]
 
 reverse_last : (s : List ℕ) (x : ℕ) → reverse (s ++ (x ∷ [])) ≡ x ∷ reverse s
 reverse_last [] x = refl
@@ -179,9 +179,9 @@ follow_ends g ts zero used i = record { front = []; whole = refl }
 follow_ends g ts (suc k) used i = go (λ j. follow_ends g ts k (i ∷ used) j) (next_trace g ts (i ∷ used) i)
   where
     go : ((j : ℕ) → Ends (follow g ts k (i ∷ used) j) (j ∷ i ∷ used)) → (o : Option Link)
-        → Ends (elim o as (λ (x : Option Link). List ℕ) [ none ↦ i ∷ used | some e ↦ follow g ts k (i ∷ used) e.index ]) (i ∷ used)
-    go ih none = record { front = []; whole = refl }
-    go ih (some e) = ends_more _ (i ∷ used) e.index (ih e.index)
+        → Ends (elim o as (λ (x : Option Link). List ℕ) [ None ↦ i ∷ used | Some e ↦ follow g ts k (i ∷ used) e.index ]) (i ∷ used)
+    go ih None = record { front = []; whole = refl }
+    go ih (Some e) = ends_more _ (i ∷ used) e.index (ih e.index)
 
 connect_ends : (g : Graph) (ts : List (List ℕ)) (used : List ℕ) (i : ℕ) (l : List (List ℕ)) → Ends (connect_from g ts used i l) used
 unfolding connect_from
@@ -215,13 +215,13 @@ part_first p n (x ∷ l) h t = go (p x) (T→≡ (p x) (subst (λ (y : ℕ). T (
     go true e = h
     go false e = absurd (true≢false (sym e))
 
-splits_warm : (g : Graph) (e : ℕ) → entry g ≡ some e → T (splits g) → T (not (cold_at g e))
+splits_warm : (g : Graph) (e : ℕ) → entry g ≡ Some e → T (splits g) → T (not (cold_at g e))
 unfolding splits warm_entry
 splits_warm g e q t =
-    subst (λ (o : Option ℕ). T (elim o as (λ (x : Option ℕ). Bool) [ none ↦ false | some e ↦ not (cold_at g e) ])) q
+    subst (λ (o : Option ℕ). T (elim o as (λ (x : Option ℕ). Bool) [ None ↦ false | Some e ↦ not (cold_at g e) ])) q
     (and_l (warm_entry g) (any (λ (b : Block). is_cold b.marks) g) t)
 
-pub partition_first : (g : Graph) (e : ℕ) → entry g ≡ some e → (o : List ℕ) → Begins e o → Begins e (partition g o)
+pub partition_first : (g : Graph) (e : ℕ) → entry g ≡ Some e → (o : List ℕ) → Begins e o → Begins e (partition g o)
 unfolding partition warm_part
 partition_first g e q o h = go (splits g) refl
   where
@@ -240,7 +240,7 @@ kept_first g e o l (alone n r p t a k) d h = a.number ∙ d n (inl refl) ∙ h
 kept_first g e o l (spanned n r p q t s k) d h = s.number ∙ d n (inl refl) ∙ h
 
 -- THE THEOREM
-pub entry_first : (g : Graph) → Sound g → (f r : Bool) (e : ℕ) → entry g ≡ some e → BeginsPlace e (layout f r g)
+pub entry_first : (g : Graph) → Sound g → (f r : Bool) (e : ℕ) → entry g ≡ Some e → BeginsPlace e (layout f r g)
 unfolding ordered
 entry_first g d f r e z =
     kept_first (readied f g) e (partition (readied f g) (ordered r (readied f g))) (layout f r g) (arms_kept f r g)
@@ -249,7 +249,7 @@ entry_first g d f r e z =
     (count→In n (ordered r (readied f g)) (omega (arith, partition_count (readied f g) (ordered r (readied f g)) n, In→count n (partition (readied f g) (ordered r (readied f g))) i))))
     (partition_first (readied f g) e q (ordered r (readied f g)) (go r))
   where
-    q : entry (readied f g) ≡ some e
+    q : entry (readied f g) ≡ Some e
     q = readied_entry f g ∙ z
 
     go : (r : Bool) → Begins e (ordered r (readied f g))

@@ -11,10 +11,9 @@ use borrow.Author.Tests.{eq-eqb, ne_eqb}
 use Rattle.lists.proofs.Choices.{split_eq}
 use Rattle.rules.specs.declared.Record.{Record}
 use Rattle.rules.specs.declared.Record.TheVariants.{Block, Arm, Outside}
-use Rattle.rules.specs.declared.Verdict.{Verdict}
 use Rattle.rules.specs.Graph.{Graph}
 use Rattle.rules.specs.Records.{records, graph_of, written}
-use Rattle.rules.specs.Refusals.{Check, check, record_checks, all_checks, panic_checks, checks, Clear, fine, first, verdict}
+use Rattle.rules.specs.Refusals.{Verdict, Check, check, record_checks, all_checks, panic_checks, checks, Clear, fine, first, verdict}
 use Rattle.rules.specs.Laid.{layout, split_of, laid_bytes}
 use Rattle.rules.specs.Outcome.{Outcome, refusal, refused, written_back, back_of, write_back, laid, layout_of, layout_blocks}
 use Rattle.rules.proofs.Verdicts.{at, first_after, first_kept, first_clear}

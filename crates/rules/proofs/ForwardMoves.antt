@@ -5,7 +5,7 @@ use native.Mathlib.Omega.{arith}
 use mathlib.Core.Path.{◌≡◌, refl, sym, subst}
 use mathlib.Core.Bool.{Bool, true, false, not, cond}
 use mathlib.Core.List.{List, [], ◌∷◌, ◌++◌, map}
-use mathlib.Core.Option.{Option, none, some}
+use Rattle.std.specs.Prelude.{Option, None, Some}
 use lib.Dec.{T, eqb, not_T, eqb→eq, eqb_refl}
 use Rattle.rules.specs.Lists.{any, all}
 use Rattle.rules.specs.Graph.{Arm, Block, Graph, with_arms}
@@ -24,13 +24,13 @@ to a m = record { to = m; args = a.args; weight = a.weight }
 -- the arms of a block taken in turn: which move, and how many that are
 pub data Turns (goals : ℕ → Option ℕ) : List Arm → List Arm → List Arm → ℕ → Type 0 where
   ended : (done : List Arm) → Turns goals done [] [] 0
-  no_goal : (done l k : List Arm) (a : Arm) (n : ℕ) → goals a.to ≡ none → Turns goals (done ++ (a ∷ [])) l k n → Turns goals done (a ∷ l) (a ∷ k) n
-  taken : (done l k : List Arm) (a : Arm) (m n : ℕ) → goals a.to ≡ some m → T (not (free (done ++ (a ∷ l)) m)) → Turns goals (done ++ (a ∷ [])) l k n
+  no_goal : (done l k : List Arm) (a : Arm) (n : ℕ) → goals a.to ≡ None → Turns goals (done ++ (a ∷ [])) l k n → Turns goals done (a ∷ l) (a ∷ k) n
+  taken : (done l k : List Arm) (a : Arm) (m n : ℕ) → goals a.to ≡ Some m → T (not (free (done ++ (a ∷ l)) m)) → Turns goals (done ++ (a ∷ [])) l k n
       → Turns goals done (a ∷ l) (a ∷ k) n
-  moves_on : (done l k : List Arm) (a : Arm) (m n : ℕ) → goals a.to ≡ some m → T (free (done ++ (a ∷ l)) m) → Turns goals (done ++ (to a m ∷ [])) l k n
+  moves_on : (done l k : List Arm) (a : Arm) (m n : ℕ) → goals a.to ≡ Some m → T (free (done ++ (a ∷ l)) m) → Turns goals (done ++ (to a m ∷ [])) l k n
       → Turns goals done (a ∷ l) (to a m ∷ k) (suc n)
 
-module _ (goals : ℕ → Option ℕ) (other : (n m : ℕ) → goals n ≡ some m → m ≡ n → ⊥) where
+module _ (goals : ℕ → Option ℕ) (other : (n m : ℕ) → goals n ≡ Some m → m ≡ n → ⊥) where
   arms_turn : (done l : List Arm) → Turns goals done l (moved_arms goals done l) (elsewhere l (moved_arms goals done l))
   unfolding moved_arms elsewhere free
   arms_turn done [] = ended done
@@ -38,8 +38,8 @@ module _ (goals : ℕ → Option ℕ) (other : (n m : ℕ) → goals n ≡ some 
     where
       here : Option ℕ → Arm
       here o = elim o as (λ (x : Option ℕ). Arm) [
-        | none ↦ a
-        | some m ↦
+        | None ↦ a
+        | Some m ↦
             elim (any (λ (x : Arm). eqb x.to m) (done ++ (a ∷ l))) as (λ (x : Bool). Arm) [ true ↦ a | false ↦ record { to = m; args = a.args; weight = a.weight } ]
       ]
 
@@ -55,7 +55,7 @@ module _ (goals : ℕ → Option ℕ) (other : (n m : ℕ) → goals n ≡ some 
       stays : Turns goals done (a ∷ l) (a ∷ rest a) (elsewhere l (rest a)) → R a
       stays t = subst (λ (n : ℕ). Turns goals done (a ∷ l) (a ∷ rest a) n) (sym (same (elsewhere l (rest a)))) t
 
-      step : (m : ℕ) → goals a.to ≡ some m → ((d : List Arm) → Turns goals d l (moved_arms goals d l) (elsewhere l (moved_arms goals d l))) → (t : Bool)
+      step : (m : ℕ) → goals a.to ≡ Some m → ((d : List Arm) → Turns goals d l (moved_arms goals d l) (elsewhere l (moved_arms goals d l))) → (t : Bool)
           → any (λ (x : Arm). eqb x.to m) (done ++ (a ∷ l)) ≡ t → R (elim t as (λ (x : Bool). Arm) [ true ↦ a | false ↦ to a m ])
       step m q ih true e = stays (taken done l (rest a) a m (elsewhere l (rest a)) q (rw e tt) (ih (done ++ (a ∷ []))))
       step m q ih false e =
@@ -65,8 +65,8 @@ module _ (goals : ℕ → Option ℕ) (other : (n m : ℕ) → goals n ≡ some 
           (moves_on done l (rest (to a m)) a m (elsewhere l (rest (to a m))) q (rw e tt) (ih (done ++ (to a m ∷ []))))
 
       go : (o : Option ℕ) → goals a.to ≡ o → ((d : List Arm) → Turns goals d l (moved_arms goals d l) (elsewhere l (moved_arms goals d l))) → R (here o)
-      go none q ih = stays (no_goal done l (rest a) a (elsewhere l (rest a)) q (ih (done ++ (a ∷ []))))
-      go (some m) q ih = step m q ih (any (λ (x : Arm). eqb x.to m) (done ++ (a ∷ l))) refl
+      go None q ih = stays (no_goal done l (rest a) a (elsewhere l (rest a)) q (ih (done ++ (a ∷ []))))
+      go (Some m) q ih = step m q ih (any (λ (x : Arm). eqb x.to m) (done ++ (a ∷ l))) refl
 
 -- the moves of a graph, block by block as listed
 pub data Moves (goals : ℕ → Option ℕ) : Graph → Graph → ℕ → Type 0 where
@@ -80,7 +80,7 @@ unfolding elsewhere
 elsewhere_none [] = refl
 elsewhere_none (a ∷ l) = rw (T→≡ (eqb a.to a.to) (eqb_refl a.to)) (omega (arith, elsewhere_none l))
 
-module _ (goals : ℕ → Option ℕ) (other : (n m : ℕ) → goals n ≡ some m → m ≡ n → ⊥) where
+module _ (goals : ℕ → Option ℕ) (other : (n m : ℕ) → goals n ≡ Some m → m ≡ n → ⊥) where
   all_move : (g : Graph) → Moves goals g (map (moved_block goals) g) (moves_between g (map (moved_block goals) g))
   unfolding moves_between moved_block
   all_move [] = none_left

@@ -6,7 +6,7 @@ use mathlib.Core.Path.{◌≡◌, refl, sym, ap, ap₂, ◌∙◌, subst}
 use mathlib.Core.Bool.{Bool, true, false, not, ◌&&◌, ◌||◌, cond, true≢false}
 use mathlib.Core.Logic.{◌⊎◌, inl, inr, ⊎_elim}
 use mathlib.Core.List.{List, [], ◌∷◌, ◌++◌, map}
-use mathlib.Core.Option.{Option, none, some}
+use Rattle.std.specs.Prelude.{Option, None, Some}
 use lib.Dec.{eqb, eqb→eq}
 use lib.ListN.{length}
 use Rattle.rules.specs.Lists.{any, find, mem}
@@ -30,40 +30,40 @@ block_or (x ∷ g) n = go (block_or g n) (eqb x.number n) refl
     go ih false e = ⊎_elim (λ i. inl (inr i)) (λ q. inr q) ih
 
 -- ---- ways through
-pub through_in : (b : Block) (t : ℕ) → through b ≡ some t → In t (targets b)
+pub through_in : (b : Block) (t : ℕ) → through b ≡ Some t → In t (targets b)
 unfolding targets
 through_in b t e = let w = (way_through b t).0 e in rw w.only (inl (sym w.to))
 
-no_through : (t : ℕ) → through no_block ≡ some t → ⊥
+no_through : (t : ℕ) → through no_block ≡ Some t → ⊥
 unfolding targets no_block
 no_through t e = through_in no_block t e
 
 -- a way through is listed
-pub through_listed : (g : Graph) (n t : ℕ) → through (block_at g n) ≡ some t → In n (numbers_of g)
+pub through_listed : (g : Graph) (n t : ℕ) → through (block_at g n) ≡ Some t → In n (numbers_of g)
 through_listed g n t e = ⊎_elim (λ i. i) (λ q. absurd (no_through t (ap through (sym q) ∙ e))) (block_or g n)
 
 module _ (g : Graph) (w : Whole g) where
   -- where a way through leads is listed
-  pub through_target : (n t : ℕ) → through (block_at g n) ≡ some t → In t (numbers_of g)
+  pub through_target : (n t : ℕ) → through (block_at g n) ≡ Some t → In t (numbers_of g)
   through_target n t e = w (block_at g n) (block_in g n (through_listed g n t e)).0 t (through_in (block_at g n) t e)
 
-  leaves_listed : (k n m : ℕ) → In n (numbers_of g) → leaves_at g k n ≡ some m → In m (numbers_of g)
+  leaves_listed : (k n m : ℕ) → In n (numbers_of g) → leaves_at g k n ≡ Some m → In m (numbers_of g)
   unfolding leaves_at
   leaves_listed zero n m i e = absurd (let z : ◌≡◌ {A = ℕ} 0 1 = cc in omega arith)
   leaves_listed (suc k) n m i e = go (λ t. leaves_listed k t m) (through (block_at g n)) refl e
     where
-      go : ((t : ℕ) → In t (numbers_of g) → leaves_at g k t ≡ some m → In m (numbers_of g)) → (o : Option ℕ) → through (block_at g n) ≡ o
-          → (elim o as (λ (x : Option ℕ). Option ℕ) [ none ↦ some n | some t ↦ leaves_at g k t ]) ≡ some m → In m (numbers_of g)
-      go ih none q e = let r : n ≡ m = cc in subst (λ (x : ℕ). In x (numbers_of g)) r i
-      go ih (some t) q e = ih t (through_target n t q) e
+      go : ((t : ℕ) → In t (numbers_of g) → leaves_at g k t ≡ Some m → In m (numbers_of g)) → (o : Option ℕ) → through (block_at g n) ≡ o
+          → (elim o as (λ (x : Option ℕ). Option ℕ) [ None ↦ Some n | Some t ↦ leaves_at g k t ]) ≡ Some m → In m (numbers_of g)
+      go ih None q e = let r : n ≡ m = cc in subst (λ (x : ℕ). In x (numbers_of g)) r i
+      go ih (Some t) q e = ih t (through_target n t q) e
 
-  pub goal_listed : (n m : ℕ) → goal g n ≡ some m → In m (numbers_of g)
+  pub goal_listed : (n m : ℕ) → goal g n ≡ Some m → In m (numbers_of g)
   unfolding goal
   goal_listed n m e = go (through (block_at g n)) refl e
     where
-      go : (o : Option ℕ) → through (block_at g n) ≡ o → (elim o as (λ (x : Option ℕ). Option ℕ) [ none ↦ none | some t ↦ leaves_at g (length g) t ]) ≡ some m → In m (numbers_of g)
-      go none q e = absurd (let z : ◌≡◌ {A = ℕ} 0 1 = cc in omega arith)
-      go (some t) q e = leaves_listed (length g) t m (through_target n t q) e
+      go : (o : Option ℕ) → through (block_at g n) ≡ o → (elim o as (λ (x : Option ℕ). Option ℕ) [ None ↦ None | Some t ↦ leaves_at g (length g) t ]) ≡ Some m → In m (numbers_of g)
+      go None q e = absurd (let z : ◌≡◌ {A = ℕ} 0 1 = cc in omega arith)
+      go (Some t) q e = leaves_listed (length g) t m (through_target n t q) e
 
   -- ---- moved arms
   moved_target : (done l : List Arm) (c : ℕ) → ((x : ℕ) → In x (map (λ (a : Arm). a.to) l) → In x (numbers_of g))
@@ -75,22 +75,22 @@ module _ (g : Graph) (w : Whole g) where
     where
       here : (o : Option ℕ) → Arm
       here o = elim o as (λ (x : Option ℕ). Arm) [
-        | none ↦ a
-        | some m ↦
+        | None ↦ a
+        | Some m ↦
             elim (any (λ (x : Arm). eqb x.to m) (done ++ (a ∷ l))) as (λ (x : Bool). Arm) [ true ↦ a | false ↦ record { to = m; args = a.args; weight = a.weight } ]
       ]
 
       Rest : Arm → Type 0
       Rest b = In c (map (λ (a : Arm). a.to) (moved_arms (goal g) (done ++ (b ∷ [])) l)) → In c (numbers_of g)
 
-      pass : (m : ℕ) → goal g a.to ≡ some m → (t : Bool)
+      pass : (m : ℕ) → goal g a.to ≡ Some m → (t : Bool)
           → (c ≡ (elim t as (λ (x : Bool). Arm) [ true ↦ a | false ↦ record { to = m; args = a.args; weight = a.weight } ]).to) → In c (numbers_of g)
       pass m q true e = h c (inl e)
       pass m q false e = subst (λ (x : ℕ). In x (numbers_of g)) (sym e) (goal_listed a.to m q)
 
       go : (o : Option ℕ) → goal g a.to ≡ o → ((b : Arm) → Rest b) → In c (map (λ (a : Arm). a.to) (here o ∷ moved_arms (goal g) (done ++ (here o ∷ [])) l)) → In c (numbers_of g)
-      go none q ih (inl e) = h c (inl e)
-      go (some m) q ih (inl e) = pass m q (any (λ (x : Arm). eqb x.to m) (done ++ (a ∷ l))) e
+      go None q ih (inl e) = h c (inl e)
+      go (Some m) q ih (inl e) = pass m q (any (λ (x : Arm). eqb x.to m) (done ++ (a ∷ l))) e
       go o q ih (inr j) = ih (here o) j
 
   moved_block_lem : (b : Block) → In b g → (c : ℕ) → In c (targets (moved_block (goal g) b)) → In c (numbers_of g)
@@ -121,9 +121,9 @@ cleared_number goals h b = go (goals b.number)
     step true = refl
     step false = refl
 
-    go : (o : Option ℕ) → (elim o as (λ (x : Option ℕ). Block) [ none ↦ b | some m ↦ elim (entered h b.number || is_addressed b.marks) as (λ (x : Bool). Block) [ true ↦ b | false ↦ bare ] ]).number ≡ b.number
-    go none = refl
-    go (some m) = step (entered h b.number || is_addressed b.marks)
+    go : (o : Option ℕ) → (elim o as (λ (x : Option ℕ). Block) [ None ↦ b | Some m ↦ elim (entered h b.number || is_addressed b.marks) as (λ (x : Bool). Block) [ true ↦ b | false ↦ bare ] ]).number ≡ b.number
+    go None = refl
+    go (Some m) = step (entered h b.number || is_addressed b.marks)
 
 cleared_target : (goals : ℕ → Option ℕ) (h : Graph) (b : Block) (c : ℕ) → In c (targets (cleared_block goals h b)) → In c (targets b)
 unfolding cleared_block targets
@@ -136,9 +136,9 @@ cleared_target goals h b c i = go (goals b.number) i
     step true i = i
     step false i = absurd i
 
-    go : (o : Option ℕ) → In c (targets (elim o as (λ (x : Option ℕ). Block) [ none ↦ b | some m ↦ elim (entered h b.number || is_addressed b.marks) as (λ (x : Bool). Block) [ true ↦ b | false ↦ bare ] ])) → In c (targets b)
-    go none i = i
-    go (some m) i = step (entered h b.number || is_addressed b.marks) i
+    go : (o : Option ℕ) → In c (targets (elim o as (λ (x : Option ℕ). Block) [ None ↦ b | Some m ↦ elim (entered h b.number || is_addressed b.marks) as (λ (x : Bool). Block) [ true ↦ b | false ↦ bare ] ])) → In c (targets b)
+    go None i = i
+    go (Some m) i = step (entered h b.number || is_addressed b.marks) i
 
 mapped_numbers : (f : Block → Block) → ((b : Block) → (f b).number ≡ b.number) → (g : Graph) → numbers_of (map f g) ≡ numbers_of g
 unfolding numbers_of
@@ -206,8 +206,8 @@ mapped_entry f n h [] = refl
 mapped_entry f n h (b ∷ g) = go (mapped_entry f n h g) (is_entry (f b).marks) (is_entry b.marks) (h b)
   where
     go : entry (map f g) ≡ entry g → (x y : Bool) → x ≡ y
-        → ◌≡◌ {A = Option ℕ} (elim x [ true ↦ some (f b).number | false ↦ entry (map f g) ]) (elim y [ true ↦ some b.number | false ↦ entry g ])
-    go ih true true e = ap (λ (m : ℕ). some m) (n b)
+        → ◌≡◌ {A = Option ℕ} (elim x [ true ↦ Some (f b).number | false ↦ entry (map f g) ]) (elim y [ true ↦ Some b.number | false ↦ entry g ])
+    go ih true true e = ap (λ (m : ℕ). Some m) (n b)
     go ih false false e = ih
     go ih true false e = absurd (true≢false e)
     go ih false true e = absurd (true≢false (sym e))
@@ -243,9 +243,9 @@ cleared_entry goals h b = go (goals b.number)
     step true = refl
     step false = dead (is_dead b.marks)
 
-    go : (o : Option ℕ) → is_entry (elim o as (λ (x : Option ℕ). Block) [ none ↦ b | some m ↦ elim (entered h b.number || is_addressed b.marks) as (λ (x : Bool). Block) [ true ↦ b | false ↦ bare ] ]).marks ≡ is_entry b.marks
-    go none = refl
-    go (some m) = step (entered h b.number || is_addressed b.marks)
+    go : (o : Option ℕ) → is_entry (elim o as (λ (x : Option ℕ). Block) [ None ↦ b | Some m ↦ elim (entered h b.number || is_addressed b.marks) as (λ (x : Bool). Block) [ true ↦ b | false ↦ bare ] ]).marks ≡ is_entry b.marks
+    go None = refl
+    go (Some m) = step (entered h b.number || is_addressed b.marks)
 
 chilled_entry : (s : List ℕ) (b : Block) → is_entry (chilled s b).marks ≡ is_entry b.marks
 unfolding chilled

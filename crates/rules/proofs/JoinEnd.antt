@@ -6,7 +6,7 @@ use mathlib.Core.Path.{◌≡◌, refl, ap}
 use mathlib.Core.Bool.{Bool, true, false, not}
 use mathlib.Core.Logic.{inl, inr}
 use mathlib.Core.List.{List, [], ◌∷◌, map, reverse}
-use mathlib.Core.Option.{Option, none, some}
+use Rattle.std.specs.Prelude.{Option, None, Some}
 use lib.Dec.{T, T_not, not_T}
 use lib.ListN.{length, get_or}
 use Rattle.rules.specs.Lists.{concat, mem, range}
@@ -18,8 +18,8 @@ use Rattle.rules.proofs.JoinOnce.{next_ok}
 
 -- trace i laid, and what follows it: `used` are those laid before, the last first
 pub data Follows (g : Graph) (ts : List (List ℕ)) : List ℕ → ℕ → List ℕ → Type 0 where
-  stops : (used : List ℕ) (i : ℕ) → next_trace g ts (i ∷ used) i ≡ none → Follows g ts used i (i ∷ used)
-  goes : (used : List ℕ) (i : ℕ) (e : Link) (v : List ℕ) → next_trace g ts (i ∷ used) i ≡ some e → Follows g ts (i ∷ used) e.index v → Follows g ts used i v
+  stops : (used : List ℕ) (i : ℕ) → next_trace g ts (i ∷ used) i ≡ None → Follows g ts used i (i ∷ used)
+  goes : (used : List ℕ) (i : ℕ) (e : Link) (v : List ℕ) → next_trace g ts (i ∷ used) i ≡ Some e → Follows g ts (i ∷ used) e.index v → Follows g ts used i v
 
 -- each trace from i on, in turn
 pub data Connects (g : Graph) (ts : List (List ℕ)) : List ℕ → ℕ → List (List ℕ) → List ℕ → Type 0 where
@@ -57,14 +57,14 @@ module _ (g : Graph) (ts : List (List ℕ)) where
   follows zero used i h = go (next_trace g ts (i ∷ used) i) refl
     where
       go : (o : Option Link) → next_trace g ts (i ∷ used) i ≡ o → Follows g ts used i (i ∷ used)
-      go none e = stops used i e
-      go (some x) e = let r = next_ok g ts (i ∷ used) i x e in absurd (omega (arith, h, unused_less (i ∷ used) x.index r.1 r.0))
+      go None e = stops used i e
+      go (Some x) e = let r = next_ok g ts (i ∷ used) i x e in absurd (omega (arith, h, unused_less (i ∷ used) x.index r.1 r.0))
   follows (suc k) used i h = go (follows k (i ∷ used)) (next_trace g ts (i ∷ used) i) refl
     where
       go : ((j : ℕ) → unused (j ∷ i ∷ used) ≤ k → Follows g ts (i ∷ used) j (follow g ts k (i ∷ used) j)) → (o : Option Link) → next_trace g ts (i ∷ used) i ≡ o
-          → Follows g ts used i (elim o as (λ (x : Option Link). List ℕ) [ none ↦ i ∷ used | some e ↦ follow g ts k (i ∷ used) e.index ])
-      go ih none e = stops used i e
-      go ih (some x) e =
+          → Follows g ts used i (elim o as (λ (x : Option Link). List ℕ) [ None ↦ i ∷ used | Some e ↦ follow g ts k (i ∷ used) e.index ])
+      go ih None e = stops used i e
+      go ih (Some x) e =
           let r = next_ok g ts (i ∷ used) i x e in
           goes used i x (follow g ts k (i ∷ used) x.index) e (ih x.index (omega (arith, h, unused_less (i ∷ used) x.index r.1 r.0)))
 

@@ -5,7 +5,7 @@ use mathlib.Core.Path.{◌≡◌, refl, sym, ap, ◌∙◌, subst}
 use mathlib.Core.Bool.{Bool, true, false, not, ◌&&◌, ◌||◌, cond}
 use mathlib.Core.Logic.{◌⊎◌, inl, inr, ⊎_elim}
 use mathlib.Core.List.{List, [], ◌∷◌, map, reverse}
-use mathlib.Core.Option.{Option, none, some}
+use Rattle.std.specs.Prelude.{Option, None, Some}
 use lib.Dec.{T, eqb, ltb, T_not, not_T, eqb→eq, eqb_refl, ltb→lt, nltb→le}
 use lib.ListN.{length, get_or}
 use Rattle.limits.specs.Limits.{blocks}
@@ -37,14 +37,14 @@ whole q (t ∷ ts) = omega (arith, tally_append q t (concat ts), whole q ts, sum
 
 -- ---- the links
 
-start_at_ok : (n i : ℕ) (ts : List (List ℕ)) (k : Link) → starting_at n i ts ≡ some k → (i ≤ k.index) × (k.index < i + length ts)
+start_at_ok : (n i : ℕ) (ts : List (List ℕ)) (k : Link) → starting_at n i ts ≡ Some k → (i ≤ k.index) × (k.index < i + length ts)
 unfolding starting_at
 start_at_ok n i [] k e = absurd (let z : ◌≡◌ {A = ℕ} 0 1 = cc in omega arith)
 start_at_ok n i (t ∷ l) k e = go (start_at_ok n (i + 1) l k) (eqb (first_or blocks t) n) e
   where
-    go : (starting_at n (i + 1) l ≡ some k → (i + 1 ≤ k.index) × (k.index < i + 1 + length l)) → (b : Bool) →
-        (elim b as (λ (x : Bool). Option Link) [ true ↦ some (record { weight = 0; long = length t; index = i }) | false ↦ starting_at n (i + 1) l ]) ≡ some k → (i ≤ k.index) × (k.index < i + suc (length l))
-    go ih true e = let q : i ≡ k.index = ap (λ (o : Option Link). elim o as (λ (x : Option Link). ℕ) [ none ↦ 0 | some l ↦ l.index ]) e in omega arith
+    go : (starting_at n (i + 1) l ≡ Some k → (i + 1 ≤ k.index) × (k.index < i + 1 + length l)) → (b : Bool) →
+        (elim b as (λ (x : Bool). Option Link) [ true ↦ Some (record { weight = 0; long = length t; index = i }) | false ↦ starting_at n (i + 1) l ]) ≡ Some k → (i ≤ k.index) × (k.index < i + suc (length l))
+    go ih true e = let q : i ≡ k.index = ap (λ (o : Option Link). elim o as (λ (x : Option Link). ℕ) [ None ↦ 0 | Some l ↦ l.index ]) e in omega arith
     go ih false e = let r = ih e in omega (arith, r.0, r.1)
 
 module _ (g : Graph) (ts : List (List ℕ)) where
@@ -65,7 +65,7 @@ module _ (g : Graph) (ts : List (List ℕ)) where
       bad : Link → Bool
       bad k = mem k.index used || (cold_at g a.to && not cold) || (not (cold_at g a.to) && cold)
 
-      step : (In e rest → R) → (k : Link) → starting_at a.to 0 ts ≡ some k → (b : Bool) → bad k ≡ b → In e (cond b rest (new k ∷ rest)) → R
+      step : (In e rest → R) → (k : Link) → starting_at a.to 0 ts ≡ Some k → (b : Bool) → bad k ≡ b → In e (cond b rest (new k ∷ rest)) → R
       step ih k q true z j = ih j
       step ih k q false z (inr j) = ih j
       step ih k q false z (inl p) =
@@ -74,13 +74,13 @@ module _ (g : Graph) (ts : List (List ℕ)) where
             omega (arith, s, (start_at_ok a.to 0 ts k q).1),
           )
 
-      go : (In e rest → R) → (o : Option Link) → starting_at a.to 0 ts ≡ o → In e (elim o [ none ↦ rest | some k ↦ cond (bad k) rest (new k ∷ rest) ]) → R
-      go ih none q j = ih j
-      go ih (some k) q j = step ih k q (bad k) refl j
+      go : (In e rest → R) → (o : Option Link) → starting_at a.to 0 ts ≡ o → In e (elim o [ None ↦ rest | Some k ↦ cond (bad k) rest (new k ∷ rest) ]) → R
+      go ih None q j = ih j
+      go ih (Some k) q j = step ih k q (bad k) refl j
 
-  pub next_ok : (used : List ℕ) (i : ℕ) (e : Link) → next_trace g ts used i ≡ some e → T (not (mem e.index used)) × (e.index < length ts)
+  pub next_ok : (used : List ℕ) (i : ℕ) (e : Link) → next_trace g ts used i ≡ Some e → T (not (mem e.index used)) × (e.index < length ts)
   unfolding next_trace
-  next_ok used i e q = ⊎_elim (λ z. absurd (let y : ◌≡◌ {A = ℕ} 0 1 = cc in omega arith)) (links_ok used (cold_at g n) (block_at g n).arms e) (best_in looser none (links g ts used (cold_at g n) (block_at g n).arms) e q)
+  next_ok used i e q = ⊎_elim (λ z. absurd (let y : ◌≡◌ {A = ℕ} 0 1 = cc in omega arith)) (links_ok used (cold_at g n) (block_at g n).arms e) (best_in looser None (links g ts used (cold_at g n) (block_at g n).arms) e q)
     where
       n : ℕ
       n = last_or blocks (get_or ts i [])
@@ -96,9 +96,9 @@ module _ (g : Graph) (ts : List (List ℕ)) where
   follow_ok (suc k) used i o b = go (follow_ok k (i ∷ used)) (next_trace g ts (i ∷ used) i) refl
     where
       go : ((j : ℕ) → Once (j ∷ i ∷ used) → ((m : ℕ) → In m (j ∷ i ∷ used) → m < length ts) → Used (j ∷ i ∷ used) (follow g ts k (i ∷ used) j)) → (e : Option Link) → next_trace g ts (i ∷ used) i ≡ e →
-          Used (i ∷ used) (elim e as (λ (x : Option Link). List ℕ) [ none ↦ i ∷ used | some e ↦ follow g ts k (i ∷ used) e.index ])
-      go ih none q = record { once = o; low = b; holds = λ m j. j }
-      go ih (some e) q =
+          Used (i ∷ used) (elim e as (λ (x : Option Link). List ℕ) [ None ↦ i ∷ used | Some e ↦ follow g ts k (i ∷ used) e.index ])
+      go ih None q = record { once = o; low = b; holds = λ m j. j }
+      go ih (Some e) q =
           let r = next_ok (i ∷ used) i e q in
           let u = ih e.index (fresh e.index (i ∷ used) o r.0) (λ m j. ⊎_elim (λ p. subst (λ (x : ℕ). x < length ts) (sym p) r.1) (b m) j) in
           record { once = u.once; low = u.low; holds = λ m j. u.holds m (inr j) }

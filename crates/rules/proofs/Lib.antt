@@ -46,3 +46,4 @@ pub mod Pieces
 pub mod TwoWalks
 pub mod Passes
 pub mod Bounds
+pub mod FaultNumbers

@@ -5,7 +5,7 @@ use mathlib.Core.Path.{◌≡◌, refl, ap}
 use mathlib.Core.Bool.{Bool, true, false, not, ◌&&◌, ◌||◌, cond}
 use mathlib.Core.Logic.{◌⊎◌, inl, inr, ⊎_elim}
 use mathlib.Core.List.{List, [], ◌∷◌, ◌++◌, map}
-use mathlib.Core.Option.{Option, none, some}
+use Rattle.std.specs.Prelude.{Option, None, Some}
 use lib.Dec.{T, eqb, eqb→eq, eqb_refl}
 use Rattle.rules.specs.Lists.{pick, keep, any, all, best, mem}
 
@@ -112,26 +112,26 @@ unfolding mem
 -- ---- the best of a list is one of it
 
 module _ {A : Type 0} (less : A → A → Bool) where
-  pub best_in : (b : Option A) (l : List A) (x : A) → best less b l ≡ some x → (b ≡ some x) ⊎ In x l
+  pub best_in : (b : Option A) (l : List A) (x : A) → best less b l ≡ Some x → (b ≡ Some x) ⊎ In x l
   unfolding best
   best_in b [] x e = inl e
-  best_in none (y ∷ l) x e = ⊎_elim (λ q. inr (inl (cc))) (λ i. inr (inr i)) (best_in (some y) l x e)
-  best_in (some b) (y ∷ l) x e = go (λ c. best_in c l x) (less b y) e
+  best_in None (y ∷ l) x e = ⊎_elim (λ q. inr (inl (cc))) (λ i. inr (inr i)) (best_in (Some y) l x e)
+  best_in (Some b) (y ∷ l) x e = go (λ c. best_in c l x) (less b y) e
     where
-      go : ((c : Option A) → best less c l ≡ some x → (c ≡ some x) ⊎ In x l) → (t : Bool) → best less (elim t [ true ↦ some y | false ↦ some b ]) l ≡ some x → (some b ≡ some x) ⊎ ((x ≡ y) ⊎ In x l)
-      go ih true e = ⊎_elim (λ q. inr (inl (cc))) (λ i. inr (inr i)) (ih (some y) e)
-      go ih false e = ⊎_elim (λ q. inl q) (λ i. inr (inr i)) (ih (some b) e)
+      go : ((c : Option A) → best less c l ≡ Some x → (c ≡ Some x) ⊎ In x l) → (t : Bool) → best less (elim t [ true ↦ Some y | false ↦ Some b ]) l ≡ Some x → (Some b ≡ Some x) ⊎ ((x ≡ y) ⊎ In x l)
+      go ih true e = ⊎_elim (λ q. inr (inl (cc))) (λ i. inr (inr i)) (ih (Some y) e)
+      go ih false e = ⊎_elim (λ q. inl q) (λ i. inr (inr i)) (ih (Some b) e)
 
-  pub best_some : (b : A) (l : List A) → best less (some b) l ≡ none → ⊥
+  pub best_some : (b : A) (l : List A) → best less (Some b) l ≡ None → ⊥
   unfolding best
   best_some b [] e = let z : ◌≡◌ {A = ℕ} 0 1 = cc in omega arith
   best_some b (y ∷ l) e = go (λ c. best_some c l) (less b y) e
     where
-      go : ((c : A) → best less (some c) l ≡ none → ⊥) → (t : Bool) → best less (elim t [ true ↦ some y | false ↦ some b ]) l ≡ none → ⊥
+      go : ((c : A) → best less (Some c) l ≡ None → ⊥) → (t : Bool) → best less (elim t [ true ↦ Some y | false ↦ Some b ]) l ≡ None → ⊥
       go ih true e = ih y e
       go ih false e = ih b e
 
-  pub best_none : (l : List A) → best less none l ≡ none → (x : A) → In x l → ⊥
+  pub best_none : (l : List A) → best less None l ≡ None → (x : A) → In x l → ⊥
   unfolding best
   best_none [] e x i = i
   best_none (y ∷ l) e x i = best_some y l e

@@ -5,7 +5,7 @@ use Prim.Native.Nat.{ℕ}
 use mathlib.Core.Path.{◌≡◌, sym, ap, ◌∙◌, subst}
 use mathlib.Core.Bool.{Bool}
 use mathlib.Core.List.{List, [], ◌∷◌}
-use mathlib.Core.Option.{some}
+use Rattle.std.specs.Prelude.{Some}
 use lib.ListN.{length}
 use Rattle.rules.specs.Lists.{concat}
 use Rattle.rules.specs.Graph.{Graph, numbers_of, entry}
@@ -39,7 +39,7 @@ module _ (g : Graph) (forwarding reorder : Bool) where
 
   pub record Passes : Type 0 where
     -- the plain order is the depth-first visit, and has each block once
-    pub visited : (e : ℕ) → entry g ≡ some e → (w : Walk) × Went from nothing (e ∷ []) w × (order from ≡ walk_order from w)
+    pub visited : (e : ℕ) → entry g ≡ Some e → (w : Walk) × Went from nothing (e ∷ []) w × (order from ≡ walk_order from w)
     pub plain_has_once : (n : ℕ) → count n (order from) ≡ count n (numbers_of g)
     -- a trace goes on while an arm fits, the rounds while there is a start, and each block is in one trace
     pub trace_goes_on : (likely low : ℕ) (laid : List ℕ) (n : ℕ) → In n (numbers_of g) → Extends from likely low laid n (extend from likely low (length from) laid n)

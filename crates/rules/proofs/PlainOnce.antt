@@ -5,7 +5,7 @@ use mathlib.Core.Path.{◌≡◌, refl, sym, subst}
 use mathlib.Core.Bool.{Bool, true, false, not}
 use mathlib.Core.Logic.{◌⊎◌, inl, inr, ⊎_elim}
 use mathlib.Core.List.{List, [], ◌∷◌, ◌++◌, reverse}
-use mathlib.Core.Option.{Option, none, some}
+use Rattle.std.specs.Prelude.{Option, None, Some}
 use lib.Dec.{T, eqb, T_not, not_T}
 use lib.ListN.{length}
 use Rattle.rules.specs.Lists.{keep, foldl, mem}
@@ -60,12 +60,12 @@ module _ (g : Graph) (w : Whole g) (o : Once (numbers_of g)) where
   plain_once m = go (entry g) refl
     where
       go : (e : Option ℕ) → entry g ≡ e → count m (elim e as (λ (x : Option ℕ). List ℕ) [
-        | none ↦ numbers_of g
-        | some e ↦
+        | None ↦ numbers_of g
+        | Some e ↦
             let v = visit g (length g) (record { seen = []; done = [] }) e in v.done ++ keep (λ (n : ℕ). not (mem n v.seen)) (numbers_of g)
       ]) ≡ count m (numbers_of g)
-      go none q = refl
-      go (some e) q = done (test (mem m v.seen))
+      go None q = refl
+      go (Some e) q = done (test (mem m v.seen))
         where
           z : Walk
           z = record { seen = []; done = [] }

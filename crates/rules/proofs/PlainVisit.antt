@@ -6,7 +6,7 @@ use mathlib.Core.Path.{◌≡◌, refl, sym, ap, ap₂, subst}
 use mathlib.Core.Bool.{not}
 use mathlib.Core.Logic.{◌⊎◌, inl, inr, ⊎_elim}
 use mathlib.Core.List.{List, [], ◌∷◌, ◌++◌, map, reverse}
-use mathlib.Core.Option.{Option, none, some}
+use Rattle.std.specs.Prelude.{Option, None, Some}
 use lib.Dec.{T, eqb, T_not, not_T}
 use lib.ListN.{length, length-map}
 use Rattle.rules.specs.Lists.{keep, foldl, mem}
@@ -130,7 +130,7 @@ unfoldable pub walk_order : Graph → Walk → List ℕ
 walk_order g w = w.done ++ keep (λ (n : ℕ). not (mem n w.seen)) (numbers_of g)
 
 -- THE THEOREM
-pub plain_visit : (g : Graph) → Whole g → (e : ℕ) → entry g ≡ some e → (w : Walk) × Went g nothing (e ∷ []) w × (order g ≡ walk_order g w)
+pub plain_visit : (g : Graph) → Whole g → (e : ℕ) → entry g ≡ Some e → (w : Walk) × Went g nothing (e ∷ []) w × (order g ≡ walk_order g w)
 unfolding order walk_order
 plain_visit g w e q = (
   visit g (length g) nothing e,
@@ -140,14 +140,14 @@ plain_visit g w e q = (
   where
     from : Option ℕ → List ℕ
     from o = elim o as (λ (x : Option ℕ). List ℕ) [
-      | none ↦ numbers_of g
-      | some e ↦
+      | None ↦ numbers_of g
+      | Some e ↦
           let w = visit g (length g) nothing e in
           w.done ++ keep (λ (n : ℕ). not (mem n w.seen)) (numbers_of g)
     ]
 
 -- without an entry nothing is reached
-pub plain_none : (g : Graph) → entry g ≡ none → order g ≡ numbers_of g
+pub plain_none : (g : Graph) → entry g ≡ None → order g ≡ numbers_of g
 unfolding order
 plain_none g q = rw (q, order) refl
 

@@ -4,7 +4,7 @@ use Prim.Native.Nat.{ℕ}
 use mathlib.Core.Path.{◌≡◌, refl}
 use mathlib.Core.Bool.{true, false}
 use mathlib.Core.List.{List, [], ◌∷◌, ◌++◌}
-use mathlib.Core.Option.{none}
+use Rattle.std.specs.Prelude.{None}
 use lib.ListN.{drop}
 use Rattle.limits.specs.Limits.{numbers, no_split}
 use Rattle.rules.specs.Lists.{pick}
@@ -94,7 +94,7 @@ pub record Points : Type 0 where
   pub p5_cleared : forward passed ≡ block 0 1 1 5 (arm 2 5 ∷ []) ∷ block 1 4 0 0 [] ∷ block 2 0 1 5 [] ∷ []
   pub p6 : moved_all doubled ≡ doubled
   pub p6_none : moves doubled ≡ 0
-  pub p7 : goal facing 1 ≡ none
+  pub p7 : goal facing 1 ≡ None
   pub p8 : cold_set self_fed ≡ 1 ∷ []
   pub p9_bridge : seen (layout true true cold_arms) ≡ (0, 2) ∷ (numbers, 1) ∷ (1, 0) ∷ (2, 0) ∷ []
   pub p9_split : split_of true true cold_arms ≡ 2

@@ -5,7 +5,7 @@ use mathlib.Core.Path.{◌≡◌, refl, ap, ◌∙◌}
 use mathlib.Core.Bool.{Bool, true, false, not, cond}
 use mathlib.Core.Logic.{⊎_elim}
 use mathlib.Core.List.{List, [], ◌∷◌, ◌++◌, map}
-use mathlib.Core.Option.{Option, none, some}
+use Rattle.std.specs.Prelude.{Option, None, Some}
 use lib.Dec.{leb}
 use lib.ListN.{length, get_or, take, drop, length-take}
 use Rattle.rules.specs.Lists.{keep, best, last_or, mem}
@@ -52,10 +52,10 @@ way_index g preferred part i (n ∷ l) w j =
         (omega (arith, e), omega (arith, e))
 
 module _ (g : Graph) (preferred : ℕ → Bool) (part : List ℕ) where
-  pub exit_last : (w : WayOut) → best worse none (ways_out g preferred part 0 part) ≡ some w → (d : ℕ) → last_or d (turned g preferred part) ≡ get_or part w.index d
+  pub exit_last : (w : WayOut) → best worse None (ways_out g preferred part 0 part) ≡ Some w → (d : ℕ) → last_or d (turned g preferred part) ≡ get_or part w.index d
   unfolding turned
   exit_last w e d =
-      let i = ⊎_elim (λ q. absurd (let z : ◌≡◌ {A = ℕ} 0 1 = cc in omega arith)) (λ j. way_index g preferred part 0 part w j) (best_in worse none (ways_out g preferred part 0 part) w e) in
+      let i = ⊎_elim (λ q. absurd (let z : ◌≡◌ {A = ℕ} 0 1 = cc in omega arith)) (λ j. way_index g preferred part 0 part w j) (best_in worse None (ways_out g preferred part 0 part) w e) in
       let k : w.index + 1 ≡ suc w.index = omega arith in
       ap (λ (o : Option WayOut). last_or d (turn o)) e
       ∙ last_append d (drop (w.index + 1) part) (take (w.index + 1) part) (omega (arith, length-take (w.index + 1) part, i.1))
@@ -63,9 +63,9 @@ module _ (g : Graph) (preferred : ℕ → Bool) (part : List ℕ) where
       ∙ last_take d part w.index (omega (arith, i.1))
     where
       turn : Option WayOut → List ℕ
-      turn o = elim o as (λ (x : Option WayOut). List ℕ) [ none ↦ part | some w ↦ drop (w.index + 1) part ++ take (w.index + 1) part ]
+      turn o = elim o as (λ (x : Option WayOut). List ℕ) [ None ↦ part | Some w ↦ drop (w.index + 1) part ++ take (w.index + 1) part ]
 
   -- "with no exit nothing turns"
-  pub no_exit : best worse none (ways_out g preferred part 0 part) ≡ none → turned g preferred part ≡ part
+  pub no_exit : best worse None (ways_out g preferred part 0 part) ≡ None → turned g preferred part ≡ part
   unfolding turned
   no_exit e = rw (e, turned) refl

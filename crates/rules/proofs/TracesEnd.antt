@@ -6,7 +6,7 @@ use mathlib.Core.Path.{◌≡◌, refl}
 use mathlib.Core.Bool.{not}
 use mathlib.Core.Logic.{inl, inr}
 use mathlib.Core.List.{List, [], ◌∷◌, map}
-use mathlib.Core.Option.{Option, none, some}
+use Rattle.std.specs.Prelude.{Option, None, Some}
 use lib.Dec.{T, T_not, not_T}
 use lib.ListN.{length, length-map}
 use Rattle.rules.specs.Lists.{foldl, mem}
@@ -21,14 +21,14 @@ use Rattle.rules.proofs.TracesOnce.{along_ok, Good, left, grow_ok, seed_ok, fill
 
 -- a trace from block n, where `laid` is laid before it
 pub data Extends (g : Graph) (likely low : ℕ) : List ℕ → ℕ → List ℕ → Type 0 where
-  stops : (laid : List ℕ) (n : ℕ) → along g (n ∷ laid) likely low (block_at g n) ≡ none → Extends g likely low laid n (n ∷ [])
-  goes : (laid : List ℕ) (n : ℕ) (a : Arm) (t : List ℕ) → along g (n ∷ laid) likely low (block_at g n) ≡ some a → Extends g likely low (n ∷ laid) a.to t
+  stops : (laid : List ℕ) (n : ℕ) → along g (n ∷ laid) likely low (block_at g n) ≡ None → Extends g likely low laid n (n ∷ [])
+  goes : (laid : List ℕ) (n : ℕ) (a : Arm) (t : List ℕ) → along g (n ∷ laid) likely low (block_at g n) ≡ Some a → Extends g likely low (n ∷ laid) a.to t
       → Extends g likely low laid n (n ∷ t)
 
 -- a round, where `o` is the plain order
 pub data Fills (g : Graph) (o : List ℕ) (likely low : ℕ) : Traced → Traced → Type 0 where
-  full : (s : Traced) → next_seed g o s.laid low ≡ none → Fills g o likely low s s
-  more : (s t : Traced) (e : Seed) → next_seed g o s.laid low ≡ some e → Fills g o likely low (trace_from g likely low s e.block) t → Fills g o likely low s t
+  full : (s : Traced) → next_seed g o s.laid low ≡ None → Fills g o likely low s s
+  more : (s t : Traced) (e : Seed) → next_seed g o s.laid low ≡ Some e → Fills g o likely low (trace_from g likely low s e.block) t → Fills g o likely low s t
 
 -- rounds, one after the other
 pub data InTurn (g : Graph) : Traced → List Round → Traced → Type 0 where
@@ -56,17 +56,17 @@ module _ (g : Graph) (w : Whole g) where
   extends likely low zero laid n j h = go (along g (n ∷ laid) likely low (block_at g n)) refl
     where
       go : (o : Option Arm) → along g (n ∷ laid) likely low (block_at g n) ≡ o → Extends g likely low laid n (n ∷ [])
-      go none e = stops laid n e
-      go (some a) e =
+      go None e = stops laid n e
+      go (Some a) e =
           let r = along_ok g w likely low (n ∷ laid) (block_at g n) a e in
           absurd (omega (arith, h, unlaid_less (n ∷ laid) a.to (w (block_at g n) (block_in g n j).0 a.to (arm_target (block_at g n) a r.0)) r.1))
   extends likely low (suc k) laid n j h = go (extends likely low k (n ∷ laid)) (along g (n ∷ laid) likely low (block_at g n)) refl
     where
       go : ((m : ℕ) → In m (numbers_of g) → unlaid (m ∷ n ∷ laid) ≤ k → Extends g likely low (n ∷ laid) m (extend g likely low k (n ∷ laid) m))
           → (o : Option Arm) → along g (n ∷ laid) likely low (block_at g n) ≡ o
-          → Extends g likely low laid n (elim o as (λ (x : Option Arm). List ℕ) [ none ↦ n ∷ [] | some a ↦ n ∷ extend g likely low k (n ∷ laid) a.to ])
-      go ih none e = stops laid n e
-      go ih (some a) e =
+          → Extends g likely low laid n (elim o as (λ (x : Option Arm). List ℕ) [ None ↦ n ∷ [] | Some a ↦ n ∷ extend g likely low k (n ∷ laid) a.to ])
+      go ih None e = stops laid n e
+      go ih (Some a) e =
           let r = along_ok g w likely low (n ∷ laid) (block_at g n) a e in
           let i = w (block_at g n) (block_in g n j).0 a.to (arm_target (block_at g n) a r.0) in
           goes laid n a (extend g likely low k (n ∷ laid) a.to) e (ih a.to i (omega (arith, h, unlaid_less (n ∷ laid) a.to i r.1)))
@@ -83,17 +83,17 @@ module _ (g : Graph) (w : Whole g) where
     fills likely low zero s h c = go (next_seed g (order g) s.laid low) refl
       where
         go : (o : Option Seed) → next_seed g (order g) s.laid low ≡ o → Fills g (order g) likely low s s
-        go none e = full s e
-        go (some x) e =
+        go None e = full s e
+        go (Some x) e =
             let r = seed_ok g w d (order g) s.laid low x e in
             absurd (omega (arith, c, (grow_ok g w d likely low s x.block (in_order x.block r.0) r.1 h).less))
     fills likely low (suc k) s h c = go (fills likely low k) (next_seed g (order g) s.laid low) refl
       where
         go : ((t : Traced) → Good g w d t → left g w d t ≤ k → Fills g (order g) likely low t (fill g (order g) likely low k t))
             → (o : Option Seed) → next_seed g (order g) s.laid low ≡ o
-            → Fills g (order g) likely low s (elim o as (λ (x : Option Seed). Traced) [ none ↦ s | some e ↦ fill g (order g) likely low k (trace_from g likely low s e.block) ])
-        go ih none e = full s e
-        go ih (some x) e =
+            → Fills g (order g) likely low s (elim o as (λ (x : Option Seed). Traced) [ None ↦ s | Some e ↦ fill g (order g) likely low k (trace_from g likely low s e.block) ])
+        go ih None e = full s e
+        go ih (Some x) e =
             let r = seed_ok g w d (order g) s.laid low x e in
             let b = grow_ok g w d likely low s x.block (in_order x.block r.0) r.1 h in
             more s (fill g (order g) likely low k (trace_from g likely low s x.block)) x e (ih (trace_from g likely low s x.block) b.good (omega (arith, c, b.less)))

@@ -5,7 +5,7 @@ use mathlib.Core.Path.{◌≡◌, refl, sym, ap, ◌∙◌, subst}
 use mathlib.Core.Bool.{Bool, true, false, not, ◌||◌}
 use mathlib.Core.Logic.{◌⊎◌, inl, inr, ⊎_elim}
 use mathlib.Core.List.{List, [], ◌∷◌, ◌++◌, map}
-use mathlib.Core.Option.{Option, none, some}
+use Rattle.std.specs.Prelude.{Option, None, Some}
 use lib.Dec.{T, eqb, leb, T_not, not_T, le→leb}
 use lib.ListN.{length, take, drop, length-map}
 use Rattle.limits.specs.Limits.{blocks}
@@ -33,11 +33,11 @@ cut n (x ∷ l) = go (cut n l) (eqb x n)
 
 turn_same : (q : ℕ → Bool) (g : Graph) (liked : ℕ → Bool) (part : List ℕ) → tally q (turned g liked part) ≡ tally q part
 unfolding turned
-turn_same q g liked part = go (best worse none (ways_out g liked part 0 part))
+turn_same q g liked part = go (best worse None (ways_out g liked part 0 part))
   where
-    go : (o : Option WayOut) → tally q (elim o [ none ↦ part | some e ↦ drop (e.index + 1) part ++ take (e.index + 1) part ]) ≡ tally q part
-    go none = refl
-    go (some e) = tally_turn q (e.index + 1) part
+    go : (o : Option WayOut) → tally q (elim o [ None ↦ part | Some e ↦ drop (e.index + 1) part ++ take (e.index + 1) part ]) ≡ tally q part
+    go None = refl
+    go (Some e) = tally_turn q (e.index + 1) part
 
 rotate_same : (q : ℕ → Bool) (g : Graph) (laid starts trace : List ℕ) → tally q (rotate g laid starts trace) ≡ tally q trace
 unfolding rotate
@@ -59,9 +59,9 @@ rotate_same q g laid starts trace = go (back_arm (block_at g (last_or blocks tra
       ap (tally q) (cut a.to trace),
     )
 
-    go : (o : Option Arm) → tally q (elim o as (λ (c : Option Arm). List ℕ) [ none ↦ trace | some a ↦ elim (turns g (last_or blocks trace) a trace) as (λ (c : Bool). List ℕ) [ false ↦ trace | true ↦ whole a ] ]) ≡ tally q trace
-    go none = refl
-    go (some a) = step a (turns g (last_or blocks trace) a trace)
+    go : (o : Option Arm) → tally q (elim o as (λ (c : Option Arm). List ℕ) [ None ↦ trace | Some a ↦ elim (turns g (last_or blocks trace) a trace) as (λ (c : Bool). List ℕ) [ false ↦ trace | true ↦ whole a ] ]) ≡ tally q trace
+    go None = refl
+    go (Some a) = step a (turns g (last_or blocks trace) a trace)
 
 -- ---- a trace
 
@@ -70,10 +70,10 @@ module _ (g : Graph) (w : Whole g) (likely low : ℕ) where
   unfolding fits
   fits_new laid b a t = search (and_l, and_r)
 
-  pub along_ok : (laid : List ℕ) (b : Block) (a : Arm) → along g laid likely low b ≡ some a → In a b.arms × T (not (mem a.to laid))
+  pub along_ok : (laid : List ℕ) (b : Block) (a : Arm) → along g laid likely low b ≡ Some a → In a b.arms × T (not (mem a.to laid))
   unfolding along
   along_ok laid b a e = ⊎_elim (λ q. absurd (let z : ◌≡◌ {A = ℕ} 0 1 = cc in omega arith)) (λ i. let r = keep→ (fits g laid likely low b) b.arms a i in (r.0, fits_new laid b a r.1))
-      (best_in lighter none (keep (fits g laid likely low b) b.arms) a e)
+      (best_in lighter None (keep (fits g laid likely low b) b.arms) a e)
 
   pub record Grown (laid : List ℕ) (n : ℕ) (t : List ℕ) : Type 0 where
     pub once : Once (t ++ laid)
@@ -86,9 +86,9 @@ module _ (g : Graph) (w : Whole g) (likely low : ℕ) where
   extend_ok (suc k) laid n j o = go (λ m. extend_ok k (n ∷ laid) m) (along g (n ∷ laid) likely low (block_at g n)) refl
     where
       go : ((m : ℕ) → In m (numbers_of g) → Once (m ∷ n ∷ laid) → Grown (n ∷ laid) m (extend g likely low k (n ∷ laid) m)) → (p : Option Arm) → along g (n ∷ laid) likely low (block_at g n) ≡ p →
-          Grown laid n (elim p [ none ↦ n ∷ [] | some a ↦ n ∷ extend g likely low k (n ∷ laid) a.to ])
-      go ih none e = record { once = o; sub = λ m i. ⊎_elim (λ e. subst (λ (x : ℕ). In x (numbers_of g)) (sym e) j) (λ f. absurd f) i; starts = inl refl }
-      go ih (some a) e =
+          Grown laid n (elim p [ None ↦ n ∷ [] | Some a ↦ n ∷ extend g likely low k (n ∷ laid) a.to ])
+      go ih None e = record { once = o; sub = λ m i. ⊎_elim (λ e. subst (λ (x : ℕ). In x (numbers_of g)) (sym e) j) (λ f. absurd f) i; starts = inl refl }
+      go ih (Some a) e =
           let r = along_ok (n ∷ laid) (block_at g n) a e in
           let u = ih a.to (w (block_at g n) (block_in g n j).0 a.to (arm_target (block_at g n) a r.0)) (fresh a.to (n ∷ laid) o r.1) in
           record {
@@ -136,16 +136,16 @@ module _ (g : Graph) (w : Whole g) (d : Once (numbers_of g)) where
       lone m = tally_append (λ (x : ℕ). eqb x m) r [] ∙ omega arith
 
   -- what the start rule picks is listed, of the order, not laid
-  pub seed_ok : (o : List ℕ) (laid : List ℕ) (low : ℕ) (e : Seed) → next_seed g o laid low ≡ some e → In e.block o × T (not (mem e.block laid))
+  pub seed_ok : (o : List ℕ) (laid : List ℕ) (low : ℕ) (e : Seed) → next_seed g o laid low ≡ Some e → In e.block o × T (not (mem e.block laid))
   unfolding next_seed seed_of startable
   seed_ok o laid low e q = ⊎_elim (λ z. absurd (let y : ◌≡◌ {A = ℕ} 0 1 = cc in omega arith)) (λ i.
       let r = map-In (seed_of g laid) (keep (startable g laid low) o) e i in
       let k = keep→ (startable g laid low) o r.0 r.1 in
       let same : e.block ≡ r.0 = ap (λ (x : Seed). x.block) r.2 in
       (subst (λ (x : ℕ). In x o) (sym same) k.0, subst (λ (x : ℕ). T (not (mem x laid))) (sym same) (and_l (not (mem r.0 laid)) (leb low (block_at g r.0).weight) k.1)))
-      (best_in below none (map (seed_of g laid) (keep (startable g laid low) o)) e q)
+      (best_in below None (map (seed_of g laid) (keep (startable g laid low) o)) e q)
 
-  seed_none : (o : List ℕ) (laid : List ℕ) → next_seed g o laid 0 ≡ none → (n : ℕ) → In n o → T (mem n laid)
+  seed_none : (o : List ℕ) (laid : List ℕ) → next_seed g o laid 0 ≡ None → (n : ℕ) → In n o → T (mem n laid)
   unfolding next_seed startable
   seed_none o laid q n i = ⊎_elim (λ t. t) (λ f. absurd (best_none below (map (seed_of g laid) (keep (startable g laid 0) o)) q (seed_of g laid n)
       (In-map (seed_of g laid) (keep (startable g laid 0) o) n (→keep (startable g laid 0) o n i (and_i (not (mem n laid)) (leb 0 (block_at g n).weight) f (le→leb 0 (block_at g n).weight (omega arith))))))) (test (mem n laid))
@@ -156,9 +156,9 @@ module _ (g : Graph) (w : Whole g) (d : Once (numbers_of g)) where
     fill_ok likely low zero s h = h
     fill_ok likely low (suc k) s h = go (fill_ok likely low k) (next_seed g o s.laid low) refl
       where
-        go : ((t : Traced) → Good t → Good (fill g o likely low k t)) → (e : Option Seed) → next_seed g o s.laid low ≡ e → Good (elim e as (λ (x : Option Seed). Traced) [ none ↦ s | some e ↦ fill g o likely low k (trace_from g likely low s e.block) ])
-        go ih none q = h
-        go ih (some e) q =
+        go : ((t : Traced) → Good t → Good (fill g o likely low k t)) → (e : Option Seed) → next_seed g o s.laid low ≡ e → Good (elim e as (λ (x : Option Seed). Traced) [ None ↦ s | Some e ↦ fill g o likely low k (trace_from g likely low s e.block) ])
+        go ih None q = h
+        go ih (Some e) q =
             let r = seed_ok o s.laid low e q in
             ih (trace_from g likely low s e.block) (grow_ok likely low s e.block (count→In e.block (numbers_of g) (omega (arith, os e.block, In→count e.block o r.0))) r.1 h).good
 
@@ -168,9 +168,9 @@ module _ (g : Graph) (w : Whole g) (d : Once (numbers_of g)) where
     fill_all likely (suc k) s h c n i = go (fill_all likely k) (next_seed g o s.laid 0) refl
       where
         go : ((t : Traced) → Good t → left t ≤ k → (n : ℕ) → In n (numbers_of g) → T (mem n (fill g o likely 0 k t).laid)) → (e : Option Seed) → next_seed g o s.laid 0 ≡ e →
-            T (mem n (elim e as (λ (x : Option Seed). Traced) [ none ↦ s | some e ↦ fill g o likely 0 k (trace_from g likely 0 s e.block) ]).laid)
-        go ih none q = seed_none o s.laid q n (count→In n o (omega (arith, os n, In→count n (numbers_of g) i)))
-        go ih (some e) q =
+            T (mem n (elim e as (λ (x : Option Seed). Traced) [ None ↦ s | Some e ↦ fill g o likely 0 k (trace_from g likely 0 s e.block) ]).laid)
+        go ih None q = seed_none o s.laid q n (count→In n o (omega (arith, os n, In→count n (numbers_of g) i)))
+        go ih (Some e) q =
             let r = seed_ok o s.laid 0 e q in
             let b = grow_ok likely 0 s e.block (count→In e.block (numbers_of g) (omega (arith, os e.block, In→count e.block o r.0))) r.1 h in
             ih (trace_from g likely 0 s e.block) b.good (omega (arith, b.less)) n i
@@ -186,9 +186,9 @@ module _ (g : Graph) (w : Whole g) (d : Once (numbers_of g)) where
       low : ℕ
       low = floor_of g round_one.often
 
-      go : (e : Option ℕ) → entry g ≡ e → Good (elim e as (λ (x : Option ℕ). Traced) [ none ↦ no_traces | some e ↦ trace_from g round_one.likely low no_traces e ])
-      go none q = none_good
-      go (some e) q = (grow_ok round_one.likely low no_traces e (entry_in g e q) tt none_good).good
+      go : (e : Option ℕ) → entry g ≡ e → Good (elim e as (λ (x : Option ℕ). Traced) [ None ↦ no_traces | Some e ↦ trace_from g round_one.likely low no_traces e ])
+      go None q = none_good
+      go (Some e) q = (grow_ok round_one.likely low no_traces e (entry_in g e q) tt none_good).good
 
   -- the last round asks for nothing
   no_floor : floor_of g 0 ≡ 0

@@ -8,9 +8,8 @@ use mathlib.Core.List.{List, [], ◌∷◌, ◌++◌}
 use lib.ListN.{length}
 use borrow.Author.Tests.{lt-ltb, le-ltb, eq-eqb, ne_eqb}
 use Rattle.limits.specs.Limits.{size, most_bytes}
-use Rattle.rules.specs.declared.Verdict.{Verdict}
 use Rattle.rules.specs.Records.{record_at, before, records, graph_of}
-use Rattle.rules.specs.Refusals.{Check, record_checks, all_checks, panic_checks, checks, Clear, fine, first, verdict}
+use Rattle.rules.specs.Refusals.{Verdict, Check, record_checks, all_checks, panic_checks, checks, Clear, fine, first, verdict}
 
 abbrev pub at : ℕ → ℕ → Verdict
 at number place = record { number = number; place = place }

@@ -6,7 +6,7 @@ use mathlib.Core.Path.{◌≡◌, refl, ap}
 use mathlib.Core.Bool.{Bool, true, false, not, ◌&&◌}
 use mathlib.Core.Logic.{◌⊎◌, inl, inr, ◌↔◌}
 use mathlib.Core.List.{List, [], ◌∷◌}
-use mathlib.Core.Option.{Option, none, some}
+use Rattle.std.specs.Prelude.{Option, None, Some}
 use lib.Dec.{T, eqb, eqb→eq}
 use Rattle.rules.specs.Graph.{Arm, Block, is_entry, is_dead, has_parameters, is_named}
 use Rattle.rules.specs.Forward.{only_target, through}
@@ -31,17 +31,17 @@ record Only (l : List Arm) (t : ℕ) : Type 0 where
   plain : arm.args ≡ 0
   to : arm.to ≡ t
 
-only_arm : (l : List Arm) (t : ℕ) → only_target l ≡ some t → Only l t
+only_arm : (l : List Arm) (t : ℕ) → only_target l ≡ Some t → Only l t
 unfolding only_target
 only_arm [] t e = absurd (let z : ◌≡◌ {A = ℕ} 0 1 = cc in omega arith)
 only_arm (a ∷ []) t e = go (eqb a.args 0) refl e
   where
-    go : (b : Bool) → eqb a.args 0 ≡ b → (elim b as (λ (x : Bool). Option ℕ) [ true ↦ some a.to | false ↦ none ]) ≡ some t → Only (a ∷ []) t
+    go : (b : Bool) → eqb a.args 0 ≡ b → (elim b as (λ (x : Bool). Option ℕ) [ true ↦ Some a.to | false ↦ None ]) ≡ Some t → Only (a ∷ []) t
     go true q e = record { arm = a; only = refl; plain = eqb→eq a.args 0 (rw q tt); to = cc }
     go false q e = absurd (let z : ◌≡◌ {A = ℕ} 0 1 = cc in omega arith)
 only_arm (a ∷ b ∷ l) t e = absurd (let z : ◌≡◌ {A = ℕ} 0 1 = cc in omega arith)
 
-pub way_through : (b : Block) (t : ℕ) → (through b ≡ some t) ↔ Way b t
+pub way_through : (b : Block) (t : ℕ) → (through b ≡ Some t) ↔ Way b t
 unfolding through only_target
 way_through b t = (λ e. go (test c) e, back)
   where
@@ -57,7 +57,7 @@ way_through b t = (λ e. go (test c) e, back)
     c : Bool
     c = bare && not (is_named b.marks)
 
-    go : T c ⊎ T (not c) → (elim c as (λ (x : Bool). Option ℕ) [ true ↦ only_target b.arms | false ↦ none ]) ≡ some t → Way b t
+    go : T c ⊎ T (not c) → (elim c as (λ (x : Bool). Option ℕ) [ true ↦ only_target b.arms | false ↦ None ]) ≡ Some t → Way b t
     go (inl y) e =
         let o = only_arm b.arms t (rw (T→≡ c y) at e) in
         let p = and_l bare (not (is_named b.marks)) y in
@@ -74,7 +74,7 @@ way_through b t = (λ e. go (test c) e, back)
           plain = o.plain;
           to = o.to;
         }
-    go (inr f) e = absurd (let h : none ≡ some t = rw (F→≡ c f) at e in let z : ◌≡◌ {A = ℕ} 0 1 = cc in omega arith)
+    go (inr f) e = absurd (let h : None ≡ Some t = rw (F→≡ c f) at e in let z : ◌≡◌ {A = ℕ} 0 1 = cc in omega arith)
 
-    back : Way b t → (elim c as (λ (x : Bool). Option ℕ) [ true ↦ only_target b.arms | false ↦ none ]) ≡ some t
-    back w = rw (w.no_instruction, w.no_entry, w.alive, w.no_parameters, w.unnamed, w.only, w.plain) (ap some w.to)
+    back : Way b t → (elim c as (λ (x : Bool). Option ℕ) [ true ↦ only_target b.arms | false ↦ None ]) ≡ Some t
+    back w = rw (w.no_instruction, w.no_entry, w.alive, w.no_parameters, w.unnamed, w.only, w.plain) (ap Some w.to)

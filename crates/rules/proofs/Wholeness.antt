@@ -5,7 +5,7 @@ use mathlib.Core.Path.{◌≡◌, refl, sym, subst}
 use mathlib.Core.Bool.{Bool, true, false, cond}
 use mathlib.Core.Logic.{inl, inr}
 use mathlib.Core.List.{List, [], ◌∷◌}
-use mathlib.Core.Option.{Option, some}
+use Rattle.std.specs.Prelude.{Option, Some}
 use lib.Dec.{T, eqb, eqb→eq, eqb_refl}
 use Rattle.rules.specs.Graph.{Arm, Block, Graph, is_entry, block_at, numbers_of, targets, entry}
 use Rattle.rules.proofs.Membership.{In, In-map}
@@ -25,12 +25,12 @@ block_in (x ∷ g) n i = go (block_in g n) (eqb x.number n) refl i
     go ih false e (inl q) = absurd (rw e at (subst (λ (k : ℕ). T (eqb x.number k)) (sym q) (eqb_refl x.number)))
     go ih false e (inr j) = (inr (ih j).0, (ih j).1)
 
-pub entry_in : (g : Graph) (e : ℕ) → entry g ≡ some e → In e (numbers_of g)
+pub entry_in : (g : Graph) (e : ℕ) → entry g ≡ Some e → In e (numbers_of g)
 unfolding entry numbers_of
 entry_in [] e q = absurd (let z : ◌≡◌ {A = ℕ} 0 1 = cc in omega arith)
 entry_in (b ∷ g) e q = go (entry_in g e) (is_entry b.marks) q
   where
-    go : (entry g ≡ some e → In e (numbers_of g)) → (t : Bool) → (elim t as (λ (x : Bool). Option ℕ) [ true ↦ some b.number | false ↦ entry g ]) ≡ some e → In e (numbers_of (b ∷ g))
+    go : (entry g ≡ Some e → In e (numbers_of g)) → (t : Bool) → (elim t as (λ (x : Bool). Option ℕ) [ true ↦ Some b.number | false ↦ entry g ]) ≡ Some e → In e (numbers_of (b ∷ g))
     go ih true q = inl (cc)
     go ih false q = inr (ih q)
 

@@ -1,6 +1,5 @@
 -- Document 01, "Exits": how each block of an order is left, and the bridges this takes.
-use Rattle.std.specs.Prelude.{ℕ, zero, suc, ◌+◌, Bool, true, false, cond, ◌&&◌, ◌||◌, List, [], ◌∷◌, ◌++◌, map, eqb, leb, length, get_or}
-use Rattle.std.proofs.Math.Option.{Option, none, some}
+use Rattle.std.specs.Prelude.{ℕ, zero, suc, ◌+◌, Bool, true, false, cond, ◌&&◌, ◌||◌, List, [], ◌∷◌, ◌++◌, map, eqb, leb, length, get_or, Option, None, Some}
 use Rattle.limits.specs.Limits.{numbers, blocks, no_split}
 use Rattle.rules.specs.declared.Leaving.{Leaving}
 use Rattle.rules.specs.declared.Leaving.TheVariants.{Nothing, Jump, Branch, Exchanged, Bridge}
@@ -104,8 +103,8 @@ new_after new (Bridge i) = suc new
 
 -- "A warm part's last block has no next."
 unfoldable pub next_in : List ℕ → Option ℕ
-next_in [] = none
-next_in (n ∷ l) = some n
+next_in [] = None
+next_in (n ∷ l) = Some n
 
 -- one part of the order, its bridges numbered from `new` up
 unfoldable pub lay_part : Graph → Bool → ℕ → List ℕ → List Place

@@ -1,6 +1,5 @@
 -- The graph that document 01's rules speak of: the blocks as listed, each with the arms that leave it, in their order.
-use Rattle.std.specs.Prelude.{ℕ, ◌/◌, ◌%◌, ◌^◌, Bool, true, false, List, [], ◌∷◌, map, eqb}
-use Rattle.std.proofs.Math.Option.{Option, none, some}
+use Rattle.std.specs.Prelude.{ℕ, ◌/◌, ◌%◌, ◌^◌, Bool, true, false, List, [], ◌∷◌, map, eqb, Option, None, Some}
 use Rattle.limits.specs.Limits.{blocks}
 use Rattle.rules.specs.Lists.{find}
 
@@ -88,13 +87,13 @@ targets b = map (λ (a : Arm). a.to) b.arms
 -- "There may be no entry."
 unfoldable pub entry : Graph → Option ℕ
 unfolding is_entry
-entry [] = none
-entry (b ∷ g) = elim (is_entry b.marks) [ true ↦ some b.number | false ↦ entry g ]
+entry [] = None
+entry (b ∷ g) = elim (is_entry b.marks) [ true ↦ Some b.number | false ↦ entry g ]
 
 -- the block that this may be is block n
 unfoldable pub names : Option ℕ → ℕ → Bool
-names none n = false
-names (some m) n = eqb m n
+names None n = false
+names (Some m) n = eqb m n
 
 -- the block with these arms in place of its own
 unfoldable pub with_arms : Block → List Arm → Block

@@ -3,6 +3,7 @@ pub mod Weights
 pub mod Graph
 pub mod Records
 pub mod Refusals
+pub mod Faults
 pub mod Within
 pub mod Ours
 pub mod Forward

@@ -1,10 +1,9 @@
 -- Document 01, "The listing program": the lines of `blocklist`, as bytes.
 use Rattle.std.specs.Prelude.{ℕ, zero, suc, ◌+◌, ◌/◌, ◌%◌, Bool, true, cond, List, [], ◌∷◌, ◌++◌, eqb, ltb}
 use Rattle.limits.specs.Limits.{no_split}
-use Rattle.rules.specs.declared.Verdict.{Verdict}
 use Rattle.rules.specs.Graph.{Graph, is_cold}
 use Rattle.rules.specs.Records.{records, graph_of}
-use Rattle.rules.specs.Refusals.{verdict}
+use Rattle.rules.specs.Refusals.{Verdict, verdict}
 use Rattle.rules.specs.Exits.{Place, laid_graph}
 use Rattle.rules.specs.Heads.{head_at, looped}
 use Rattle.rules.specs.Laid.{layout, split_of}

@@ -1,7 +1,6 @@
 -- The small functions on lists that the rules are written with.
-use Rattle.std.specs.Prelude.{ℕ, zero, suc, true, false, ◌&&◌, ◌||◌, List, [], ◌∷◌, ◌++◌, eqb}
+use Rattle.std.specs.Prelude.{ℕ, zero, suc, true, false, ◌&&◌, ◌||◌, List, [], ◌∷◌, ◌++◌, eqb, Option, None, Some}
 use Rattle.std.proofs.Math.Bool.{Bool, cond}
-use Rattle.std.proofs.Math.Option.{Option, none, some}
 
 module _ {A : Type 0} where
   -- a choice that stays shut: name it on an `unfolding` line where it is to compute
@@ -31,8 +30,8 @@ module _ {A : Type 0} where
   -- the greatest, the first on ties: of the best so far and a list
   unfoldable pub best : (A → A → Bool) → Option A → List A → Option A
   best less b [] = b
-  best less none (x ∷ l) = best less (some x) l
-  best less (some b) (x ∷ l) = best less (elim (less b x) [ true ↦ some x | false ↦ some b ]) l
+  best less None (x ∷ l) = best less (Some x) l
+  best less (Some b) (x ∷ l) = best less (elim (less b x) [ true ↦ Some x | false ↦ Some b ]) l
 
   -- the first and the last, or d
   unfoldable pub first_or : A → List A → A

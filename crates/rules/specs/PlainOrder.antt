@@ -1,6 +1,5 @@
 -- Document 01, "Plain order": what is laid in place of traces when reordering is off, and what breaks ties between starts.
-use Rattle.std.specs.Prelude.{ℕ, zero, suc, true, false, not, List, [], ◌∷◌, ◌++◌, reverse, length}
-use Rattle.std.proofs.Math.Option.{none, some}
+use Rattle.std.specs.Prelude.{ℕ, zero, suc, true, false, not, List, [], ◌∷◌, ◌++◌, reverse, length, None, Some}
 use Rattle.rules.specs.Lists.{keep, foldl, mem}
 use Rattle.rules.specs.Graph.{Graph, block_at, numbers_of, targets, entry}
 
@@ -24,8 +23,8 @@ visit g (suc k) w n = elim (mem n w.seen) [
 unfoldable pub order : Graph → List ℕ
 unfolding visit keep entry numbers_of mem
 order g = elim (entry g) [
-  | none ↦ numbers_of g
-  | some e ↦
+  | None ↦ numbers_of g
+  | Some e ↦
       let w = visit g (length g) (record { seen = []; done = [] }) e in
       w.done ++ keep (λ (n : ℕ). not (mem n w.seen)) (numbers_of g)
 ]

@@ -4,7 +4,6 @@ use Rattle.std.specs.Prelude.{ℕ, suc, ◌%◌, ◌≡◌, Bool, true, false, n
 use Rattle.limits.specs.Limits.{size, most_bytes, most_arms}
 use Rattle.rules.specs.declared.Record.{Record}
 use Rattle.rules.specs.declared.Record.TheVariants.{Block, Arm, Outside}
-use Rattle.rules.specs.declared.Verdict.{Verdict}
 use Rattle.rules.specs.Graph.{Graph, is_entry}
 use Rattle.rules.specs.Records.{records, graph_of}
 
@@ -105,6 +104,11 @@ Clear [] = Unit
 Clear (c ∷ l) = (c.holds ≡ false) × Clear l
 
 -- ---- the verdict
+
+-- the number of a refusal and the record that it names; number 0 where nothing is refused
+pub record Verdict : Type 0 where
+  pub number : ℕ
+  pub place : ℕ
 
 -- nothing is refused
 unfoldable pub fine : Verdict

@@ -1,6 +1,5 @@
 -- Document 01, "Rotate": a trace that ends in a loop is turned so that the loop is left by falling through.
-use Rattle.std.specs.Prelude.{ℕ, ◌+◌, Bool, true, false, not, cond, ◌&&◌, ◌||◌, List, [], ◌∷◌, ◌++◌, map, eqb, leb, ltb, length, take, drop}
-use Rattle.std.proofs.Math.Option.{Option, none, some}
+use Rattle.std.specs.Prelude.{ℕ, ◌+◌, Bool, true, false, not, cond, ◌&&◌, ◌||◌, List, [], ◌∷◌, ◌++◌, map, eqb, leb, ltb, length, take, drop, Option, None, Some}
 use Rattle.limits.specs.Limits.{blocks}
 use Rattle.rules.specs.Lists.{keep, any, best, last_or, mem}
 use Rattle.rules.specs.Graph.{Arm, Block, Graph, is_walking, block_at, entry, names}
@@ -9,7 +8,7 @@ use Rattle.rules.specs.Weights.{over_four_fifths}
 -- "take the last block's heaviest arm, LAST on ties"
 unfoldable pub back_arm : Block → Option Arm
 unfolding best
-back_arm b = best (λ (x y : Arm). leb x.weight y.weight) none b.arms
+back_arm b = best (λ (x y : Arm). leb x.weight y.weight) None b.arms
 
 -- the blocks of a trace before block n, and those from it to the end
 unfoldable pub lead_in : ℕ → List ℕ → List ℕ
@@ -54,7 +53,7 @@ ways_out g preferred part i (n ∷ l) =
 unfoldable pub turned : Graph → (ℕ → Bool) → List ℕ → List ℕ
 unfolding ways_out best worse
 turned g preferred part =
-    elim (best worse none (ways_out g preferred part 0 part)) [ none ↦ part | some w ↦ drop (w.index + 1) part ++ take (w.index + 1) part ]
+    elim (best worse None (ways_out g preferred part 0 part)) [ None ↦ part | Some w ↦ drop (w.index + 1) part ++ take (w.index + 1) part ]
 
 -- the trace as it ends; `laid` holds its own blocks too, `starts` the first blocks of earlier traces alone
 unfoldable pub rotate : Graph → List ℕ → List ℕ → List ℕ → List ℕ
@@ -62,8 +61,8 @@ unfolding turns turned lead_in cycle back_arm last_or block_at mem
 rotate g laid starts trace =
     let last = last_or blocks trace in
     elim (back_arm (block_at g last)) [
-      | none ↦ trace
-      | some a ↦ elim (turns g last a trace) [
+      | None ↦ trace
+      | Some a ↦ elim (turns g last a trace) [
         | false ↦ trace
         | true ↦
             lead_in a.to trace ++ turned g (λ (n : ℕ). not (mem n laid) || mem n starts) (cycle a.to trace)

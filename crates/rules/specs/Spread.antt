@@ -1,8 +1,7 @@
 -- Document 01, "Spread": what only cold blocks lead to is cold.
 use Prim.Native.Nat.{ℕ, zero, suc, ◌+◌}
-use Rattle.std.specs.Prelude.{Bool, not, ◌&&◌, ◌||◌, List, map, eqb, length}
+use Rattle.std.specs.Prelude.{Bool, not, ◌&&◌, ◌||◌, List, map, eqb, length, Option, None, Some}
 use Rattle.std.proofs.Math.Bool.{true, false}
-use Rattle.std.proofs.Math.Option.{Option, none, some}
 use Rattle.rules.specs.Lists.{keep, all, mem}
 use Rattle.rules.specs.Graph.{Block, Graph, is_cold, cold_at, numbers_of, targets, entry, names}
 
@@ -50,7 +49,7 @@ cold_blocks g = map (λ (b : Block). b.number) (keep (λ (b : Block). is_cold b.
 -- "a warm entry"
 unfoldable pub warm_entry : Graph → Bool
 unfolding entry cold_at
-warm_entry g = elim (entry g) [ none ↦ false | some e ↦ not (cold_at g e) ]
+warm_entry g = elim (entry g) [ None ↦ false | Some e ↦ not (cold_at g e) ]
 
 -- "Only with a warm entry and some cold block"
 unfoldable pub spreads : Graph → Bool

@@ -1,7 +1,6 @@
 -- Document 01, "Traces": runs of blocks that mostly follow each other, found in four rounds.
-use Rattle.std.specs.Prelude.{ℕ, zero, suc, max, Bool, not, cond, ◌&&◌, ◌||◌, List, [], ◌∷◌, ◌++◌, map, eqb, leb, ltb, length}
+use Rattle.std.specs.Prelude.{ℕ, zero, suc, max, Bool, not, cond, ◌&&◌, ◌||◌, List, [], ◌∷◌, ◌++◌, map, eqb, leb, ltb, length, Option, None, Some}
 use Rattle.std.specs.Bool.{beq}
-use Rattle.std.proofs.Math.Option.{Option, none, some}
 use Rattle.limits.specs.Limits.{blocks}
 use Rattle.rules.specs.Lists.{keep, foldl, best, first_or, mem}
 use Rattle.rules.specs.Graph.{Arm, Block, Graph, is_cold, block_at, cold_at, entry}
@@ -24,7 +23,7 @@ rounds = round_one ∷ record { likely = 2000; often = 2000 } ∷ record { likel
 -- "entry weight (ONCE if no entry)"
 unfoldable pub entered_weight : Graph → ℕ
 unfolding entry block_at
-entered_weight g = elim (entry g) [ none ↦ once | some e ↦ (block_at g e).weight ]
+entered_weight g = elim (entry g) [ None ↦ once | Some e ↦ (block_at g e).weight ]
 
 -- "Floor = entry weight (ONCE if no entry) x often / 10,000 rounded down."
 unfoldable pub floor_of : Graph → ℕ → ℕ
@@ -45,14 +44,14 @@ lighter a b = ltb a.weight b.weight
 -- "Extend by the heaviest arm, first on ties, [that fits]"
 unfoldable pub along : Graph → List ℕ → ℕ → ℕ → Block → Option Arm
 unfolding best keep fits
-along g laid likely low b = best lighter none (keep (fits g laid likely low b) b.arms)
+along g laid likely low b = best lighter None (keep (fits g laid likely low b) b.arms)
 
 -- the trace from block n, at most k blocks beyond it
 unfoldable pub extend : Graph → ℕ → ℕ → ℕ → List ℕ → ℕ → List ℕ
 unfolding along block_at
 extend g likely low zero laid n = n ∷ []
 extend g likely low (suc k) laid n =
-    elim (along g (n ∷ laid) likely low (block_at g n)) [ none ↦ n ∷ [] | some a ↦ n ∷ extend g likely low k (n ∷ laid) a.to ]
+    elim (along g (n ∷ laid) likely low (block_at g n)) [ None ↦ n ∷ [] | Some a ↦ n ∷ extend g likely low k (n ∷ laid) a.to ]
 
 -- ---- starts
 
@@ -89,7 +88,7 @@ startable g laid low n = not (mem n laid) && leb low (block_at g n).weight
 -- on ties, in the plain order `o`
 unfoldable pub next_seed : Graph → List ℕ → List ℕ → ℕ → Option Seed
 unfolding best below seed_of keep startable
-next_seed g o laid low = best below none (map (seed_of g laid) (keep (startable g laid low) o))
+next_seed g o laid low = best below None (map (seed_of g laid) (keep (startable g laid low) o))
 
 -- ---- the rounds
 
@@ -116,12 +115,12 @@ trace_from g likely low s n =
 unfoldable pub fill : Graph → List ℕ → ℕ → ℕ → ℕ → Traced → Traced
 unfolding next_seed trace_from
 fill g o likely low zero s = s
-fill g o likely low (suc k) s = elim (next_seed g o s.laid low) [ none ↦ s | some e ↦ fill g o likely low k (trace_from g likely low s e.block) ]
+fill g o likely low (suc k) s = elim (next_seed g o s.laid low) [ None ↦ s | Some e ↦ fill g o likely low k (trace_from g likely low s e.block) ]
 
 -- "Round one starts at the entry."
 unfoldable pub entry_trace : Graph → Traced
 unfolding entry no_traces trace_from floor_of
-entry_trace g = elim (entry g) [ none ↦ no_traces | some e ↦ trace_from g round_one.likely (floor_of g round_one.often) no_traces e ]
+entry_trace g = elim (entry g) [ None ↦ no_traces | Some e ↦ trace_from g round_one.likely (floor_of g round_one.often) no_traces e ]
 
 -- one round, with its floor
 unfoldable pub in_round : Graph → Traced → Round → Traced

@@ -1,4 +1,4 @@
-pub mod StartLaws
-pub mod SpanLaws
-pub mod LookLaws
 pub mod CutLaws
+pub mod LookLaws
+pub mod SiftLaws
+pub mod SpanLaws

@@ -1,3 +1,2 @@
-pub mod Starts
 pub mod Spans
 pub mod Looks

@@ -1,15 +1,14 @@
 -- The heaviest arm in from a laid block, with one block more laid; and the table of them, arm by arm. Assumes nothing.
-use Prim.Native.Nat.{ℕ, zero, suc, ◌+◌, ◌-◌, ◌≤◌, ◌<◌, max}
+use Prim.Native.Nat.{ℕ, zero, suc, ◌+◌, ◌≤◌, ◌<◌, max}
+use native.Mathlib.Numerals.{add-one}
 use native.Mathlib.Omega.{arith}
-use mathlib.Core.Path.{◌≡◌, refl, sym, ap, ◌∙◌, subst}
+use mathlib.Core.Path.{◌≡◌, refl, sym, ap, ◌∙◌}
 use mathlib.Core.Bool.{Bool, true, false, cond, ◌||◌}
 use mathlib.Core.Logic.{inl, inr}
-use mathlib.Core.List.{List, [], ◌∷◌}
+use mathlib.Core.List.{List, [], ◌∷◌, ◌++◌}
 use lib.Dec.{eqb}
-use lib.ListN.{length, get_or, set, replicate, length-set}
-use lib.Seq.{set-get_or}
+use lib.ListN.{length, get_or, set, replicate}
 use borrow.Author.Tests.{eq-eqb, eqb-true}
-use Rattle.limits.specs.Limits.{blocks}
 use Rattle.lists.proofs.Tables.{set_get, zero_get}
 use Rattle.rules.specs.Graph as graph
 use Rattle.rules.specs.Graph.{numbers_of}
@@ -18,18 +17,15 @@ use Rattle.rules.specs.Traces.{heaviest_in}
 use Rattle.rules.proofs.Membership.{In}
 use Rattle.records.specs.declared.Arms.{Arms}
 use Rattle.records.specs.declared.Graph.{Graph}
-use Rattle.records.specs.Tables.{arm_at, arms_from, block_at, tabled}
+use Rattle.records.specs.Tables.{arm_at, arms_from, leaves, block_at, tabled, Has, Sound}
 use Rattle.records.proofs.StandLaws.{in_tables}
+use Rattle.records.proofs.TableLaws.{arms_more}
 use Rattle.marks.proofs.SetLaws.{eqb_turn}
-use Rattle.flow.specs.Lent.{Flows, Of}
-use Rattle.flow.proofs.LentLaws.{block_is, arms_at, small, goes_to, to_at, heft_at, sized}
-use Rattle.seeds.specs.Reached.{Reached, Notes, Noted}
+use Rattle.flow.specs.Lent.{Of}
+use Rattle.flow.proofs.SoundLaws.{block_is, small, arms_are, goes_on}
+use Rattle.seeds.specs.Reached.{Reached, Notes, heaviest, Entries, Noted}
 
 -- ---- by the rules
--- the heaviest of k and those of some arms that go to block m
-unfoldable heaviest : ℕ → ℕ → List graph.Arm → ℕ
-heaviest m k l = foldl (λ (j : ℕ) (a : graph.Arm). cond (eqb a.to m) (max j a.weight) j) k l
-
 heaviest_max : (m k : ℕ) (l : List graph.Arm) → heaviest m k l ≡ max k (heaviest m 0 l)
 unfolding heaviest foldl
 heaviest_max m k [] = omega arith
@@ -101,81 +97,61 @@ pub reached_none : (t : Graph) (k : ℕ) → Reached t [] (replicate k 0)
 reached_none t k m i = zero_get k m ∙ sym (heaviest_over [] m (tabled t) ∙ over_none m 0 (tabled t))
 
 -- ---- by the table
-module _ (to heft : List ℕ) where
-  -- the table with arm q noted
-  unfoldable pub raised : ℕ → List ℕ → List ℕ
-  raised q r = set r (get_or to q 0) (max (get_or r (get_or to q 0) 0) (get_or heft q 0))
+foldl_append : {A B : Type 0} (f : B → A → B) (b : B) (l k : List A) → foldl f b (l ++ k) ≡ foldl f (foldl f b l) k
+unfolding foldl
+foldl_append f b [] k = refl
+foldl_append f b (x ∷ l) k = foldl_append f (f b x) l k
 
-  -- the table with n arms from f on noted
-  unfoldable pub noted : ℕ → ℕ → List ℕ → List ℕ
-  noted f zero r = r
-  noted f (suc n) r = noted (suc f) n (raised f r)
+-- the entries count the first k of block n's arms too
+abbrev pub Counted : Arms → ℕ → List ℕ → List ℕ → ℕ → Type 0
+Counted a n before after k = (m : ℕ) → get_or after m 0 ≡ heaviest m (get_or before m 0) (arms_from a (get_or a.first n 0) k)
 
-  pub noted_next : (q e : ℕ) (r s : List ℕ) → q < e → s ≡ raised q r → noted (q + 1) (e - (q + 1)) s ≡ noted q (e - q) r
-  unfolding noted
-  noted_next q e r s l h = let z : e - q ≡ suc (e - (q + 1)) = omega (arith, l) in let y : suc q ≡ q + 1 = omega arith in rw (h, z, sym y) refl
+module _ (a : Arms) (n : ℕ) (before : List ℕ) where
+  pub counted_none : Counted a n before before 0
+  unfolding heaviest foldl arms_from
+  counted_none m = refl
 
-  pub noted_end : (q e : ℕ) (r : List ℕ) → e ≤ q → noted q (e - q) r ≡ r
-  unfolding noted
-  noted_end q e r h = let z : e - q ≡ 0 = omega (arith, h) in rw z refl
-
-  pub raised_length : (q : ℕ) (r : List ℕ) → length (raised q r) ≡ length r
-  unfolding raised
-  raised_length q r = length-set r (get_or to q 0) (max (get_or r (get_or to q 0) 0) (get_or heft q 0))
-
--- an entry that is less, and one that is not
-pub raise_less : (r : List ℕ) (n w : ℕ) → get_or r n 0 < w → set r n w ≡ set r n (max (get_or r n 0) w)
-raise_less r n w h = let e : w ≡ max (get_or r n 0) w = omega (arith, h) in ap (set r n) e
-
-pub raise_more : (r : List ℕ) (n w : ℕ) → w ≤ get_or r n 0 → r ≡ set r n (max (get_or r n 0) w)
-raise_more r n w h = let e : get_or r n 0 ≡ max (get_or r n 0) w = omega (arith, h) in sym (set-get_or r n 0) ∙ ap (set r n) e
-
-module _ (a : Arms) (to heft : List ℕ) (to_is : (q : ℕ) → (arm_at a q).to ≡ get_or to q 0) (heft_is : (q : ℕ) → (arm_at a q).weight ≡ get_or heft q 0) (m : ℕ) where
-  raised_is : (q : ℕ) (r : List ℕ) → get_or to q 0 < length r → get_or (raised to heft q r) m 0 ≡ cond (eqb (arm_at a q).to m) (max (get_or r m 0) (arm_at a q).weight) (get_or r m 0)
-  unfolding raised
-  raised_is q r h = rw (to_is q, heft_is q, eqb_turn (get_or to q 0) m) (set_get r (get_or to q 0) (max (get_or r (get_or to q 0) 0) (get_or heft q 0)) m h ∙ go (eqb m (get_or to q 0)) refl)
+  pub counted_more : (after : List ℕ) (k q : ℕ) → q ≡ get_or a.first n 0 + k → get_or a.to q 0 < length after → Counted a n before after k
+      → Counted a n before (set after (get_or a.to q 0) (max (get_or after (get_or a.to q 0) 0) (get_or a.weight q 0))) (k + 1)
+  unfolding heaviest foldl arm_at
+  counted_more after k q at h v m =
+      let to = get_or a.to q 0 in
+      let w = get_or a.weight q 0 in
+      set_get after to (max (get_or after to 0) w) m h ∙ turn (eqb m to) refl
+      ∙ rw (eqb_turn m to, v m, at, add-one, arms_more a k (get_or a.first n 0))
+      (sym (foldl_append (λ (j : ℕ) (x : graph.Arm). cond (eqb x.to m) (max j x.weight) j) (get_or before m 0) (arms_from a (get_or a.first n 0) k) (arm_at a (get_or a.first n 0 + k) ∷ [])))
     where
-      go : (t : Bool) → eqb m (get_or to q 0) ≡ t → cond t (max (get_or r (get_or to q 0) 0) (get_or heft q 0)) (get_or r m 0) ≡ cond t (max (get_or r m 0) (get_or heft q 0)) (get_or r m 0)
-      go true e = ap (λ (k : ℕ). max (get_or r k 0) (get_or heft q 0)) (sym (eqb-true m (get_or to q 0) e))
-      go false e = refl
-
-  noted_is : (f n : ℕ) (r : List ℕ) → ((q : ℕ) → f ≤ q → q < f + n → get_or to q 0 < length r) → get_or (noted to heft f n r) m 0 ≡ heaviest m (get_or r m 0) (arms_from a f n)
-  unfolding noted heaviest foldl arms_from
-  noted_is f zero r h = refl
-  noted_is f (suc n) r h =
-      noted_is (suc f) n (raised to heft f r) (λ q l k. rw (raised_length to heft f r) (h q (omega (arith, l)) (omega (arith, k))))
-      ∙ ap (λ (k : ℕ). heaviest m k (arms_from a (suc f) n)) (raised_is f r (h f (omega arith) (omega arith)))
+      turn : (t : Bool) → eqb m (get_or a.to q 0) ≡ t → cond t (max (get_or after (get_or a.to q 0) 0) (get_or a.weight q 0)) (get_or after m 0) ≡ cond t (max (get_or after m 0) (get_or a.weight q 0)) (get_or after m 0)
+      turn true e = ap (λ (k : ℕ). max (get_or after k 0) (get_or a.weight q 0)) (sym (eqb-true m (get_or a.to q 0) e))
+      turn false e = refl
 
 -- ---- in a graph that has the tables
-module _ {t : Graph} {marks weight first count to heft : List ℕ} (k : Flows t marks weight first count to heft) (n : ℕ) (i : Of t n) where
-  known : (b : graph.Block) → In b (tabled t) → b.number ≡ n → b.arms ≡ arms_from t.a (get_or first n 0) (get_or count n 0)
+module _ {t : Graph} (s : Sound t) (n : ℕ) (i : Of t n) where
+  known : (b : graph.Block) → In b (tabled t) → b.number ≡ n → b.arms ≡ leaves t.a n
   unfolding tabled
-  known b j e = ap (λ (c : graph.Block). c.arms) (in_tables t.b t.a t.blocks b j ∙ ap (block_at t.b t.a) e ∙ sym (block_is k n i)) ∙ arms_at k n i
+  known b j e = ap (λ (c : graph.Block). c.arms) (in_tables t.b t.a t.blocks b j ∙ ap (block_at t.b t.a) e ∙ sym (block_is s n i)) ∙ arms_are s n i
 
   -- what noting asks for
-  pub notes : Notes first count to heft n
-  notes = record {
-    first_sized = (sized k).first_sized;
-    count_sized = (sized k).count_sized;
-    to_sized = (sized k).to_sized;
-    heft_sized = (sized k).heft_sized;
-    fits = (sized k).fits n;
-    goes = λ j h. omega (arith, small k (get_or to (get_or first n 0 + j) 0) (goes_to k n i j h));
-  }
+  pub notes : Notes t.a n
+  notes = record { fits = omega (arith, s.stands.fits n); goes = λ q h. omega (arith, small s (get_or t.a.to q 0) (goes_on s n i q h)) }
 
-module _ {first count to heft : List ℕ} {n : ℕ} (asks : Notes first count to heft n) (f c : ℕ) (is_first : f ≡ get_or first n 0) (is_count : c ≡ get_or count n 0) where
-  -- its arms go to blocks
-  pub goes_in : (q : ℕ) → f ≤ q → q < f + c → get_or to q 0 < blocks
-  goes_in q l u =
-      let s : get_or first n 0 + (q - f) ≡ q = omega (arith, l, is_first) in
-      subst (λ (x : ℕ). get_or to x 0 < blocks) s (asks.goes (q - f) (omega (arith, l, u, is_count)))
+pub entries_noted : (a : Arms) (n : ℕ) (before after : List ℕ) → Entries a n before after → Noted a n before after
+entries_noted a n before after v t z s i laid h m j =
+    v m ∙ ap (λ (k : ℕ). heaviest m k (leaves a n)) (h m j)
+    ∙ rw (sym z) (sym (heaviest_more laid m n (leaves t.a n) (tabled t) (known s n i) i))
 
-  pub noted_all : (before after : List ℕ) → length before ≡ blocks → after ≡ noted to heft f (f + c - f) before → Noted first count to heft n before after
-  noted_all before after long e t marks weight k i laid h m j =
-      let z : f + c - f ≡ c = omega arith in
-      let l = arms_from t.a f c in
-      let is : arms_from t.a (get_or first n 0) (get_or count n 0) ≡ l = rw (sym is_first, sym is_count) refl in
-      ap (λ (x : List ℕ). get_or x m 0) (e ∙ ap (λ (x : ℕ). noted to heft f x before) z)
-      ∙ noted_is t.a to heft (to_at k) (heft_at k) m f c before (λ q b u. omega (arith, goes_in q b u, long))
-      ∙ ap (λ (x : ℕ). heaviest m x l) (h m j)
-      ∙ sym (heaviest_more laid m n l (tabled t) (λ b v w. known k n i b v w ∙ is) i)
+-- an entry that none of the arms is over stays
+module _ (a : Arms) (m k : ℕ) where
+  heaviest_same : (f c : ℕ) → ((q : ℕ) → f ≤ q → q < f + c → get_or a.to q 0 ≡ m → get_or a.weight q 0 ≤ k) → heaviest m k (arms_from a f c) ≡ k
+  unfolding heaviest foldl arms_from arm_at
+  heaviest_same f zero h = refl
+  heaviest_same f (suc c) h = go (eqb (get_or a.to f 0) m) refl (heaviest_same (suc f) c (λ q l u. h q (omega (arith, l)) (omega (arith, u))))
+    where
+      go : (t : Bool) → eqb (get_or a.to f 0) m ≡ t → heaviest m k (arms_from a (suc f) c) ≡ k → heaviest m (cond t (max k (get_or a.weight f 0)) k) (arms_from a (suc f) c) ≡ k
+      go true e ih = let z : max k (get_or a.weight f 0) ≡ k = omega (arith, h f (omega arith) (omega arith) (eqb-true (get_or a.to f 0) m e)) in rw z ih
+      go false e ih = ih
+
+pub entries_same : (a : Arms) (n : ℕ) (before after : List ℕ) → Entries a n before after → (m : ℕ)
+    → ((q : ℕ) → Has a n q → get_or a.to q 0 ≡ m → get_or a.weight q 0 ≤ get_or before m 0) → get_or after m 0 ≡ get_or before m 0
+unfolding leaves
+entries_same a n before after v m h = v m ∙ heaviest_same a m (get_or before m 0) (get_or a.first n 0) (get_or a.count n 0) (λ q l u. h q (record { from = l; below = u }))

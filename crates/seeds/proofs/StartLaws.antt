@@ -1,145 +1,71 @@
--- The start rule, block by block; and that the tables find the start that the rules find. Assumes nothing.
-use Prim.Native.Nat.{ℕ, zero, suc, ◌+◌, ◌≤◌, ◌<◌}
-use native.Mathlib.Numerals.{add-one}
-use native.Mathlib.Omega.{arith}
+-- The best of a list of blocks as starts, and that it is the start that the rules find. Assumes nothing.
+use Prim.Native.Nat.{ℕ}
 use mathlib.Core.Path.{◌≡◌, refl, sym, ap, ◌∙◌}
-use mathlib.Core.Bool.{Bool, true, false, not, cond, ◌&&◌, ◌||◌, beq, true≢false}
-use mathlib.Core.Logic.{inl, inr}
+use mathlib.Core.Bool.{Bool, true, false, not, cond, ◌&&◌, true≢false}
+use mathlib.Core.Logic.{◌⊎◌, inl, inr, ⊎_elim}
 use mathlib.Core.List.{List, [], ◌∷◌, map}
-use mathlib.Core.Option.{Option, none, some}
-use lib.Dec.{eqb, leb, ltb}
-use lib.ListN.{length, get_or, take}
-use lib.Seq.{slice, slice-cons, slice_empty}
-use borrow.Author.Tests.{le-ltb, eq-eqb, ne_eqb}
-use Rattle.rules.specs.Graph.{is_cold}
+use Rattle.std.specs.Prelude.{Option, None, Some, filter, fold}
+use lib.Dec.{leb}
+use lib.ListN.{get_or}
 use Rattle.rules.specs.Lists.{keep, best}
 use Rattle.rules.specs.Traces.{Seed, seed_of, below, startable, next_seed}
 use Rattle.rules.proofs.Membership.{In}
+use Rattle.records.specs.declared.Blocks.{Blocks}
 use Rattle.records.specs.declared.Graph.{Graph}
-use Rattle.records.specs.Tables.{tabled}
+use Rattle.records.specs.Tables.{tabled, Sound}
 use Rattle.marks.specs.Sets.{member}
-use Rattle.flow.specs.Lent.{Flows, Of, Marks}
-use Rattle.flow.proofs.LentLaws.{weight_at, cold_at_lem}
-use Rattle.seeds.specs.declared.Start.{Start}
-use Rattle.seeds.specs.declared.Start.TheVariants.{At, Nothing}
+use Rattle.flow.specs.Lent.{Of, Marks}
+use Rattle.flow.proofs.SoundLaws.{weight_is, cold_is}
 use Rattle.seeds.specs.Reached.{Reached}
-use Rattle.seeds.specs.Starts.{seed_by, startable_by, ahead, Among, start_of, block_of, StartsAt}
+use Rattle.seeds.specs.Starts.{seed_by, startable_by, ahead, best_of, Among, block_of, StartsAt}
 
--- ---- the order of two starts, test by test
-other_side : (a b rest : Bool) → beq a b ≡ false → a ≡ ltb (cond a 0 1) (cond b 0 1) || (eqb (cond a 0 1) (cond b 0 1) && rest)
-other_side true true rest e = absurd (true≢false e)
-other_side true false rest e = refl
-other_side false true rest e = refl
-other_side false false rest e = absurd (true≢false e)
-
-same_side : (a b rest : Bool) → beq a b ≡ true → rest ≡ ltb (cond a 0 1) (cond b 0 1) || (eqb (cond a 0 1) (cond b 0 1) && rest)
-same_side true true rest e = refl
-same_side true false rest e = absurd (true≢false (sym e))
-same_side false true rest e = absurd (true≢false (sym e))
-same_side false false rest e = refl
-
-or_none : (b : Bool) → b ≡ b || false
-or_none true = refl
-or_none false = refl
-
-module _ (marks weight reached : List ℕ) (x y : ℕ) (cold other : Bool) (is_x : cold ≡ is_cold (get_or marks x 0)) (is_y : other ≡ is_cold (get_or marks y 0)) where
-  pub below_cold : beq cold other ≡ false → cold ≡ below (seed_by marks weight reached x) (seed_by marks weight reached y)
-  unfolding below seed_by
-  below_cold d = rw (sym is_x, sym is_y) (other_side cold other _ d)
-
-  module _ (d : beq cold other ≡ true) (a b : ℕ) (is_a : a ≡ get_or reached x 0) (is_b : b ≡ get_or reached y 0) where
-    pub below_reached : (a ≡ b → ⊥) → ltb a b ≡ below (seed_by marks weight reached x) (seed_by marks weight reached y)
-    unfolding below seed_by
-    below_reached h = rw (sym is_x, sym is_y, sym is_a, sym is_b, ne_eqb a b h) (or_none (ltb a b) ∙ same_side cold other (ltb a b || false) d)
-
-    pub below_weight : a ≡ b → ltb (get_or weight x 0) (get_or weight y 0) ≡ below (seed_by marks weight reached x) (seed_by marks weight reached y)
-    unfolding below seed_by
-    below_weight e = rw (sym is_x, sym is_y, sym is_a, sym is_b, eq-eqb a b e, le-ltb a b (omega (arith, e))) (same_side cold other (ltb (get_or weight x 0) (get_or weight y 0)) d)
-
--- ---- whether a block may start
-pub startable_not : (weight seen : List ℕ) (low n : ℕ) → true ≡ member seen n → false ≡ startable_by weight seen low n
-unfolding startable_by
-startable_not weight seen low n e = rw (sym e) refl
-
-pub startable_if : (weight seen : List ℕ) (low n : ℕ) → false ≡ member seen n → leb low (get_or weight n 0) ≡ startable_by weight seen low n
-unfolding startable_by
-startable_if weight seen low n e = rw (sym e) refl
-
-startable_free : (weight seen : List ℕ) (low n : ℕ) → startable_by weight seen low n ≡ true → member seen n ≡ false
-unfolding startable_by
-startable_free weight seen low n e = go (member seen n) e
-  where
-    go : (b : Bool) → not b && leb low (get_or weight n 0) ≡ true → b ≡ false
-    go true e = absurd (true≢false (sym e))
-    go false e = refl
-
--- ---- the better of two starts
-module _ (seed : ℕ → Seed) (s : Start) (n : ℕ) where
-  pub first_one : s ≡ Nothing → At n ≡ ahead seed s n
-  unfolding ahead
-  first_one e = rw e refl
-
-  pub later_one : (x : ℕ) → s ≡ At x → true ≡ below (seed x) (seed n) → At n ≡ ahead seed s n
-  unfolding ahead
-  later_one x e h = rw (e, ahead, sym h) refl
-
-  pub former_one : (x : ℕ) → s ≡ At x → false ≡ below (seed x) (seed n) → At x ≡ ahead seed s n
-  unfolding ahead
-  former_one x e h = rw (e, ahead, sym h) refl
-
-ahead_among : (seed : ℕ → Seed) (l seen : List ℕ) (s : Start) (n : ℕ) → In n l → member seen n ≡ false → Among l seen s → Among l seen (ahead seed s n)
-unfolding ahead
-ahead_among seed l seen Nothing n i f h = (i, f)
-ahead_among seed l seen (At x) n i f h = go (below (seed x) (seed n))
-  where
-    go : (t : Bool) → Among l seen (cond t (At n) (At x))
-    go true = (i, f)
-    go false = h
-
--- ---- block by block
+-- ---- the best of those that pass a test
 module _ (p : ℕ → Bool) (seed : ℕ → Seed) where
-  -- the best of the best start so far and those of some blocks that pass the test
-  unfoldable pub chosen : Start → List ℕ → Start
-  chosen s [] = s
-  chosen s (n ∷ l) = chosen (cond (p n) (ahead seed s n) s) l
+  ahead_one : (o : Option ℕ) (x n : ℕ) → ahead seed o x ≡ Some n → (o ≡ Some n) ⊎ (n ≡ x)
+  unfolding ahead
+  ahead_one None x n e = inr (cc)
+  ahead_one (Some y) x n e = go (below (seed y) (seed x)) e
+    where
+      go : (t : Bool) → cond t (Some x) (Some y) ≡ Some n → (Some y ≡ Some n) ⊎ (n ≡ x)
+      go true e = inr (cc)
+      go false e = inl e
 
-  module _ (s : Start) (order : List ℕ) (i len n : ℕ) (lt : i < len) (le : len ≤ length order) (is : n ≡ get_or order i 0) where
-    step : chosen s (slice i len order) ≡ chosen (cond (p n) (ahead seed s n) s) (slice (i + 1) len order)
-    unfolding chosen
-    step = rw (slice-cons i len order 0 lt le, is, add-one) refl
-
-    pub chosen_yes : (r : Start) → p n ≡ true → r ≡ ahead seed s n → chosen r (slice (i + 1) len order) ≡ chosen s (slice i len order)
-    chosen_yes r t e = rw e (sym (step ∙ rw t refl))
-
-    pub chosen_no : p n ≡ false → chosen s (slice (i + 1) len order) ≡ chosen s (slice i len order)
-    chosen_no t = sym (step ∙ rw t refl)
-
-  pub chosen_end : (s : Start) (order : List ℕ) (i len : ℕ) → i ≡ len → chosen s (slice i len order) ≡ s
-  unfolding chosen
-  chosen_end s order i len e = rw (e, slice_empty len order) refl
+  -- it is one of them, or the best before
+  one_of : (o : Option ℕ) (l : List ℕ) (n : ℕ) → fold (ahead seed) o (filter p l) ≡ Some n → (o ≡ Some n) ⊎ (In n l × (p n ≡ true))
+  one_of o [] n e = inl e
+  one_of o (x ∷ l) n e = go (p x) refl (λ r. one_of r l n) e
+    where
+      go : (t : Bool) → p x ≡ t → ((r : Option ℕ) → fold (ahead seed) r (filter p l) ≡ Some n → (r ≡ Some n) ⊎ (In n l × (p n ≡ true)))
+          → fold (ahead seed) o (cond t (x ∷ filter p l) (filter p l)) ≡ Some n → (o ≡ Some n) ⊎ (In n (x ∷ l) × (p n ≡ true))
+      go true t ih q = ⊎_elim
+          (λ h. ⊎_elim (λ z. inl z) (λ z. inr (inl z, ap p z ∙ t)) (ahead_one o x n h))
+          (λ h. inr (inr h.0, h.1)) (ih (ahead seed o x) q)
+      go false t ih q = ⊎_elim (λ h. inl h) (λ h. inr (inr h.0, h.1)) (ih o q)
 
   -- the seed of a start
-  seed_in : Start → Option Seed
-  seed_in (At n) = some (seed n)
-  seed_in Nothing = none
+  seed_in : Option ℕ → Option Seed
+  seed_in None = None
+  seed_in (Some n) = Some (seed n)
 
-  best_more : (s : Start) (n : ℕ) (l : List Seed) → best below (seed_in (ahead seed s n)) l ≡ best below (seed_in s) (seed n ∷ l)
+  best_more : (o : Option ℕ) (n : ℕ) (l : List Seed) → best below (seed_in (ahead seed o n)) l ≡ best below (seed_in o) (seed n ∷ l)
   unfolding best ahead seed_in
-  best_more Nothing n l = refl
-  best_more (At x) n l = go (below (seed x) (seed n))
+  best_more None n l = refl
+  best_more (Some x) n l = go (below (seed x) (seed n))
     where
-      go : (t : Bool) → best below (seed_in (cond t (At n) (At x))) l ≡ best below (elim t [ true ↦ some (seed n) | false ↦ some (seed x) ]) l
+      go : (t : Bool) → best below (seed_in (cond t (Some n) (Some x))) l ≡ best below (elim t [ true ↦ Some (seed n) | false ↦ Some (seed x) ]) l
       go true = refl
       go false = refl
 
-  chosen_best : (s : Start) (l : List ℕ) → seed_in (chosen s l) ≡ best below (seed_in s) (map seed (keep p l))
-  unfolding chosen keep best
-  chosen_best s [] = refl
-  chosen_best s (n ∷ l) = go (p n) (λ r. chosen_best r l)
+  -- it is the rules' best of their seeds
+  best_is : (o : Option ℕ) (l : List ℕ) → seed_in (fold (ahead seed) o (filter p l)) ≡ best below (seed_in o) (map seed (keep p l))
+  unfolding keep best
+  best_is o [] = refl
+  best_is o (n ∷ l) = go (p n) (λ r. best_is r l)
     where
-      go : (t : Bool) → ((r : Start) → seed_in (chosen r l) ≡ best below (seed_in r) (map seed (keep p l))) → seed_in (chosen (cond t (ahead seed s n) s) l) ≡ best below (seed_in s) (map seed (cond t (n ∷ keep p l) (keep p l)))
-      go true ih = ih (ahead seed s n) ∙ best_more s n (map seed (keep p l))
-      go false ih = ih s
+      go : (t : Bool) → ((r : Option ℕ) → seed_in (fold (ahead seed) r (filter p l)) ≡ best below (seed_in r) (map seed (keep p l)))
+          → seed_in (fold (ahead seed) o (cond t (n ∷ filter p l) (filter p l))) ≡ best below (seed_in o) (map seed (cond t (n ∷ keep p l) (keep p l)))
+      go true ih = ih (ahead seed o n) ∙ best_more o n (map seed (keep p l))
+      go false ih = ih o
 
 -- ---- in a graph that has the tables
 map_same : (p q : ℕ → Bool) (f h : ℕ → Seed) (l : List ℕ) → ((n : ℕ) → In n l → p n ≡ q n) → ((n : ℕ) → In n l → f n ≡ h n) → map f (keep p l) ≡ map h (keep q l)
@@ -151,38 +77,33 @@ map_same p q f h (n ∷ l) t s = rw (t n (inl refl)) (go (q n) (map_same p q f h
     go true ih = rw (s n (inl refl), ih) refl
     go false ih = ih
 
-module _ {t : Graph} {marks weight first count to heft : List ℕ} (k : Flows t marks weight first count to heft) (seen laid : List ℕ) (m : Marks seen laid) (reached : List ℕ) (h : Reached t laid reached) (low n : ℕ) (i : Of t n) where
-  startable_same : startable_by weight seen low n ≡ startable (tabled t) laid low n
+module _ {t : Graph} (s : Sound t) (seen laid : List ℕ) (m : Marks seen laid) (reached : List ℕ) (h : Reached t laid reached) (low n : ℕ) (i : Of t n) where
+  startable_same : startable_by t.b seen low n ≡ startable (tabled t) laid low n
   unfolding startable_by startable
-  startable_same = rw (m n, weight_at k n i) refl
+  startable_same = rw (m n, weight_is s n i) refl
 
-  seed_same : seed_by marks weight reached n ≡ seed_of (tabled t) laid n
+  seed_same : seed_by t.b reached n ≡ seed_of (tabled t) laid n
   unfolding seed_by seed_of
-  seed_same = rw (cold_at_lem k n i, weight_at k n i, sym (h n i)) refl
+  seed_same = rw (cold_is s n i, weight_is s n i, sym (h n i)) refl
 
-module _ (marks weight seen reached : List ℕ) (low : ℕ) where
-  start_block : (s : Start) → start_of s ≡ block_of (seed_in (startable_by weight seen low) (seed_by marks weight reached) s)
-  unfolding start_of block_of seed_in seed_by
-  start_block (At n) = refl
-  start_block Nothing = refl
+module _ (b : Blocks) (seen reached : List ℕ) (low : ℕ) (order : List ℕ) where
+  pub best_among : Among order seen (best_of b seen reached low order)
+  unfolding best_of startable_by
+  best_among n e = ⊎_elim (λ z. absurd (cc)) (λ h. (h.0, free (member seen n) h.1)) (one_of (startable_by b seen low) (seed_by b reached) None order n e)
+    where
+      free : (t : Bool) → not t && leb low (get_or b.weight n 0) ≡ true → t ≡ false
+      free true q = absurd (true≢false (sym q))
+      free false q = refl
 
-  pub chosen_starts : (order : List ℕ) (r : Start) → chosen (startable_by weight seen low) (seed_by marks weight reached) Nothing order ≡ r → StartsAt marks weight order seen reached low r
-  unfolding next_seed seed_in
-  chosen_starts order r e t first count to heft k o laid m h =
-      sym (ap start_of e) ∙ start_block (chosen (startable_by weight seen low) (seed_by marks weight reached) Nothing order)
-      ∙ ap block_of (chosen_best (startable_by weight seen low) (seed_by marks weight reached) Nothing order)
-      ∙ ap (λ (l : List Seed). block_of (best below none l))
-      (map_same (startable_by weight seen low) (startable (tabled t) laid low) (seed_by marks weight reached) (seed_of (tabled t) laid) order
-      (λ n i. startable_same k seen laid m reached h low n (o n i)) (λ n i. seed_same k seen laid m reached h low n (o n i)))
+  block_is : (o : Option ℕ) → block_of (seed_in (startable_by b seen low) (seed_by b reached) o) ≡ o
+  unfolding block_of seed_in seed_by
+  block_is None = refl
+  block_is (Some n) = refl
 
--- ---- one of the first n
-taken_in : (l : List ℕ) (i n : ℕ) → i < n → n ≤ length l → In (get_or l i 0) (take n l)
-taken_in [] i n h k = absurd (omega (arith, h, k))
-taken_in (x ∷ l) i zero h k = absurd (omega (arith, h))
-taken_in (x ∷ l) zero (suc n) h k = inl refl
-taken_in (x ∷ l) (suc i) (suc n) h k = inr (taken_in l i n (omega (arith, h)) (omega (arith, k)))
-
-pub better_among : (seed : ℕ → Seed) (weight seen order : List ℕ) (low i len : ℕ) (s : Start) (n : ℕ) → i < len → len ≤ length order → n ≡ get_or order i 0 → startable_by weight seen low n ≡ true →
-    Among (take len order) seen s → Among (take len order) seen (ahead seed s n)
-better_among seed weight seen order low i len s n lt le e t a =
-    ahead_among seed (take len order) seen s n (rw e (taken_in order i len lt le)) (startable_free weight seen low n t) a
+  pub best_starts : StartsAt b order seen reached low (best_of b seen reached low order)
+  unfolding next_seed seed_in best_of
+  best_starts t z s o laid m h =
+      sym (block_is (best_of b seen reached low order)) ∙ ap block_of (best_is (startable_by b seen low) (seed_by b reached) None order)
+      ∙ rw (sym z) (ap (λ (l : List Seed). block_of (best below None l))
+      (map_same (startable_by t.b seen low) (startable (tabled t) laid low) (seed_by t.b reached) (seed_of (tabled t) laid) order
+      (λ n i. startable_same s seen laid m reached h low n (o n i)) (λ n i. seed_same s seen laid m reached h low n (o n i))))

@@ -1,26 +1,32 @@
 -- The table of the heaviest arms in from laid blocks, and what laying a block adds to it.
-use Rattle.std.specs.Prelude.{ℕ, ◌+◌, ◌≤◌, ◌<◌, ◌≡◌, List, ◌∷◌, length, get_or}
+use Rattle.std.specs.Prelude.{ℕ, ◌+◌, ◌≤◌, ◌<◌, ◌≡◌, max, cond, List, ◌∷◌, eqb, get_or}
 use Rattle.limits.specs.Limits.{blocks, arms}
+use Rattle.rules.specs.Graph as graph
+use Rattle.rules.specs.Lists.{foldl}
 use Rattle.rules.specs.Traces.{heaviest_in}
+use Rattle.records.specs.declared.Arms.{Arms}
 use Rattle.records.specs.declared.Graph.{Graph}
-use Rattle.records.specs.Tables.{tabled}
-use Rattle.flow.specs.Lent.{Flows, Of}
+use Rattle.records.specs.Tables.{leaves, tabled, Has, Sound}
+use Rattle.flow.specs.Lent.{Of}
 
 -- for every block of t the table has the heaviest arm in from a laid block
 abbrev pub Reached : Graph → List ℕ → List ℕ → Type 0
 Reached t laid reached = (m : ℕ) → Of t m → get_or reached m 0 ≡ heaviest_in (tabled t) laid m
 
--- the tables have all that block n's arms need: entries for them, and for the blocks that they go to
-pub record Notes (first count to heft : List ℕ) (n : ℕ) : Type 0 where
-  pub first_sized : length first ≡ blocks
-  pub count_sized : length count ≡ blocks
-  pub to_sized : length to ≡ arms
-  pub heft_sized : length heft ≡ arms
-  pub fits : get_or first n 0 + get_or count n 0 ≤ arms
-  pub goes : (j : ℕ) → j < get_or count n 0 → get_or to (get_or first n 0 + j) 0 < blocks
+-- block n's arms are in the tables, and go to blocks
+pub record Notes (a : Arms) (n : ℕ) : Type 0 where
+  pub fits : get_or a.first n 0 + get_or a.count n 0 ≤ arms
+  pub goes : (q : ℕ) → Has a n q → get_or a.to q 0 < blocks
 
--- in every graph that has these tables and this block: what held of the blocks laid before holds with n laid too
-abbrev pub Noted : List ℕ → List ℕ → List ℕ → List ℕ → ℕ → List ℕ → List ℕ → Type 0
-Noted first count to heft n before after =
-    (t : Graph) (marks weight : List ℕ) → Flows t marks weight first count to heft → Of t n →
-    (laid : List ℕ) → Reached t laid before → Reached t (n ∷ laid) after
+-- the heaviest of k and those of some arms that go to block m
+unfoldable pub heaviest : ℕ → ℕ → List graph.Arm → ℕ
+heaviest m k l = foldl (λ (j : ℕ) (a : graph.Arm). cond (eqb a.to m) (max j a.weight) j) k l
+
+-- each entry counts block n's arms too
+abbrev pub Entries : Arms → ℕ → List ℕ → List ℕ → Type 0
+Entries a n before after = (m : ℕ) → get_or after m 0 ≡ heaviest m (get_or before m 0) (leaves a n)
+
+-- in every graph with these arms and this block: what held of the blocks laid before holds with n laid too
+abbrev pub Noted : Arms → ℕ → List ℕ → List ℕ → Type 0
+Noted a n before after =
+    (t : Graph) → t.a ≡ a → Sound t → Of t n → (laid : List ℕ) → Reached t laid before → Reached t (n ∷ laid) after

@@ -1,14 +1,17 @@
 -- A trace grown block by block is the one that the rule makes. Assumes nothing.
-use Prim.Native.Nat.{ℕ, zero, suc, ◌+◌, ◌≤◌, ◌<◌, max}
+use Prim.Native.Nat.{ℕ, suc, ◌+◌, ◌-◌, ◌≤◌, ◌<◌, max}
 use native.Mathlib.Omega.{arith}
 use mathlib.Core.Path.{◌≡◌, refl, sym, ap, ap₂, ◌∙◌, subst}
 use mathlib.Core.Bool.{Bool, true, false, not, cond, ◌||◌}
-use mathlib.Core.Logic.{inl, inr, ⊎_elim}
+use mathlib.Core.Logic.{inl, inr}
 use mathlib.Core.List.{List, [], ◌∷◌, ◌++◌, append_assoc}
-use mathlib.Core.Option.{Option, none, some}
+use Rattle.std.specs.Prelude.{Option, None, Some}
 use lib.Dec.{T, eqb}
-use lib.ListN.{length, get_or, set, take, drop, length-append, length-map}
-use lib.Seq.{drop-cons, set_at, take_at, drop_at, length-take-le, slice, get_or-set_same, get_or-set_other}
+use lib.ListN.{length, get_or, set, take, drop, take-append-drop, length-append, length-drop, get_or-eq_default}
+use lib.Seq.{drop-cons, drop-drop, set_at, take_at, drop_at, length-take-le}
+use borrow.Rule.Slice.PartMut.{put_mid}
+use Rattle.std.specs.List.{between}
+use Rattle.std.proofs.lemmas.Slice.{between_is}
 use Rattle.limits.specs.Limits.{numbers, blocks}
 use Rattle.lists.proofs.Choices.{split_lt}
 use Rattle.marks.specs.Sets.{member}
@@ -18,37 +21,38 @@ use Rattle.rules.specs.Graph as graph
 use Rattle.rules.specs.Graph.{Block, Graph, block_at, numbers_of}
 use Rattle.rules.specs.Rotate.{rotate}
 use Rattle.rules.specs.Traces.{heaviest_in, along, Traced}
-use Rattle.rules.proofs.Membership.{In, In-left, mem→, →mem, test}
-use Rattle.rules.proofs.Counting.{Once, count, In→count, count_zero, fresh, no_longer}
+use Rattle.rules.proofs.Membership.{In, In-left, mem→, →mem}
+use Rattle.rules.proofs.Counting.{Once, fresh}
 use Rattle.rules.proofs.Wholeness.{Whole, block_in, arm_target}
 use Rattle.rules.proofs.TracesOnce.{along_ok}
 use Rattle.rules.proofs.TracesEnd.{Extends, stops, goes, trace_ends}
 use Rattle.records.specs.declared.Graph as tables
-use Rattle.records.specs.Tables.{arm_at, tabled}
-use Rattle.records.proofs.TableLaws.{up_to_length}
-use Rattle.flow.specs.Lent.{Flows, Of, Marks, arm_of}
-use Rattle.flow.proofs.LentLaws.{to_at}
-use Rattle.flow.specs.declared.Choice.{Choice}
-use Rattle.flow.specs.declared.Choice.TheVariants.{Arm, Nothing}
+use Rattle.records.specs.Tables.{arm_at, tabled, Sound}
+use Rattle.flow.specs.Lent.{Of, Marks, arm_of}
+use Rattle.flow.proofs.PartLaws.{get_in}
+use Rattle.flow.proofs.SoundLaws.{small}
 use Rattle.seeds.specs.Reached.{Reached, Noted}
-use Rattle.along.specs.Choosing.{Within, GoesOn}
-use Rattle.rotate.specs.Turning.{Rotated}
-use Rattle.traces.specs.Growing.{Ready, trace_of, Turned, Traces}
+use Rattle.along.specs.Choosing.{GoesOn}
+use Rattle.rotate.specs.Turning.{Below, Rotated}
+use Rattle.traces.specs.declared.Growth.{Growth}
+use Rattle.traces.specs.Held.{Held, Free, Adds}
+use Rattle.traces.specs.Growing.{start_of, trace_of, Turned}
+use Rattle.traces.proofs.HeldLaws.{Ready, no_more, few_blocks, ready}
 
 -- ---- what a rule says of a trace that goes on, and of one that ends
 module _ (g : Graph) (likely low : ℕ) where
-  some_none : (a : graph.Arm) → ◌≡◌ {A = Option graph.Arm} none (some a) → ⊥
+  some_none : (a : graph.Arm) → ◌≡◌ {A = Option graph.Arm} None (Some a) → ⊥
   some_none a e = let z : ◌≡◌ {A = ℕ} 0 1 = cc in omega arith
 
-  same_arm : (a b : graph.Arm) → ◌≡◌ {A = Option graph.Arm} (some a) (some b) → a ≡ b
+  same_arm : (a b : graph.Arm) → ◌≡◌ {A = Option graph.Arm} (Some a) (Some b) → a ≡ b
   same_arm a b e = cc
 
-  went : (laid : List ℕ) (n : ℕ) (rest : List ℕ) (a : graph.Arm) → Extends g likely low laid n rest → along g (n ∷ laid) likely low (block_at g n) ≡ some a →
+  went : (laid : List ℕ) (n : ℕ) (rest : List ℕ) (a : graph.Arm) → Extends g likely low laid n rest → along g (n ∷ laid) likely low (block_at g n) ≡ Some a →
       (r : List ℕ) × (rest ≡ n ∷ r) × Extends g likely low (n ∷ laid) a.to r
   went laid n rest a (stops _ _ e) q = absurd (some_none a (sym e ∙ q))
   went laid n rest a (goes _ _ b r e x) q = (r, refl, subst (λ (c : graph.Arm). Extends g likely low (n ∷ laid) c.to r) (same_arm b a (sym e ∙ q)) x)
 
-  ended : (laid : List ℕ) (n : ℕ) (rest : List ℕ) → Extends g likely low laid n rest → along g (n ∷ laid) likely low (block_at g n) ≡ none → rest ≡ n ∷ []
+  ended : (laid : List ℕ) (n : ℕ) (rest : List ℕ) → Extends g likely low laid n rest → along g (n ∷ laid) likely low (block_at g n) ≡ None → rest ≡ n ∷ []
   ended laid n rest (stops _ _ e) q = refl
   ended laid n rest (goes _ _ b r e x) q = absurd (some_none b (sym q ∙ e))
 
@@ -88,10 +92,18 @@ pub marks_more : (seen more l : List ℕ) (n : ℕ) → ((m : ℕ) → member mo
 unfolding mem any
 marks_more seen more l n h r m = h m ∙ ap₂ (λ (a b : Bool). a || b) (eqb_turn m n) (r m)
 
-pub take_drop : (k : ℕ) (l : List ℕ) → l ≡ take k l ++ drop k l
-take_drop zero l = refl
-take_drop (suc k) [] = refl
-take_drop (suc k) (x ∷ l) = ap (λ (r : List ℕ). x ∷ r) (take_drop k l)
+pub put_long : (a k : ℕ) (order part : List ℕ) → a + k ≤ length order → length part ≡ length (take k (drop a order)) → length (put_mid a k order part) ≡ length order
+put_long a k order part h e =
+    omega (
+      arith,
+      e,
+      length-append (take a order) (part ++ drop k (drop a order)),
+      length-append part (drop k (drop a order)),
+      length-take-le a order (omega arith),
+      length-drop a order,
+      length-drop k (drop a order),
+      length-take-le k (drop a order) (omega (arith, length-drop a order)),
+    )
 
 -- ---- a trace on its way
 module _ (t : tables.Graph) (s : Traced) (likely low from start : ℕ) (was : List ℕ) where
@@ -125,8 +137,8 @@ module _ (t : tables.Graph) (s : Traced) (likely low from start : ℕ) (was : Li
     pub ordered : order ≡ take start was ++ (whole ++ drop e was)
     pub own : (m : ℕ) → In m whole → Of t m
 
-  pub sets_out : Whole (tabled t) → (entry : ℕ) (seen starts reached : List ℕ) → Ready t s entry from start seen starts reached → Going seen reached was start from
-  sets_out w entry seen starts reached r = record {
+  pub sets_out : Whole (tabled t) → (seen reached : List ℕ) → Ready t s from start seen reached → Going seen reached was start from
+  sets_out w seen reached r = record {
     made = [];
     rest = whole;
     laid = s.laid;
@@ -138,7 +150,7 @@ module _ (t : tables.Graph) (s : Traced) (likely low from start : ℕ) (was : Li
     marked = r.laid_is;
     reaches = r.reached_is;
     at = omega arith;
-    ordered = take_drop start was;
+    ordered = sym (take-append-drop start was);
     once = r.once;
     own = r.own;
     long = r.long;
@@ -153,14 +165,8 @@ module _ (t : tables.Graph) (s : Traced) (likely low from start : ℕ) (was : Li
     own_more m (inr j) = h.own m j
 
     -- each block is laid once: there is room
-    pub room : e < length (numbers_of (tabled t))
-    room = omega (arith, h.long, no_longer (n ∷ h.laid) (numbers_of (tabled t)) fewer)
-      where
-        fewer : (m : ℕ) → count m (n ∷ h.laid) ≤ count m (numbers_of (tabled t))
-        fewer m = ⊎_elim
-            (λ y. omega (arith, once_more m, In→count m (numbers_of (tabled t)) (own_more m (mem→ m (n ∷ h.laid) y))))
-            (λ z. omega (arith, count_zero m (n ∷ h.laid) z))
-            (test (mem m (n ∷ h.laid)))
+    pub room_for : Sound t → e < numbers
+    room_for l = omega (arith, h.long, no_more l (n ∷ h.laid) once_more own_more, few_blocks l)
 
     module _ (seen' reached' order' : List ℕ) (fits : e < length was) (before : start ≤ length was)
         (marks : (m : ℕ) → member seen' m ≡ eqb m n || member seen m)
@@ -178,7 +184,7 @@ module _ (t : tables.Graph) (s : Traced) (likely low from start : ℕ) (was : Li
           ∙ append_assoc (take start was) h.made (n ∷ drop (suc e) was)
           ∙ ap (λ (l : List ℕ). take start was ++ l) (sym (append_assoc h.made (n ∷ []) (drop (suc e) was)))
 
-      pub goes_by : (a : graph.Arm) → Whole (tabled t) → ((l : List ℕ) → Marks seen' l → along (tabled t) l likely low (block_at (tabled t) n) ≡ some a) → Going seen' reached' order' (suc e) a.to
+      pub goes_by : (a : graph.Arm) → Whole (tabled t) → ((l : List ℕ) → Marks seen' l → along (tabled t) l likely low (block_at (tabled t) n) ≡ Some a) → Going seen' reached' order' (suc e) a.to
       goes_by a w says =
           let m = marks_more seen seen' h.laid n marks h.marked in
           let q = says (n ∷ h.laid) m in
@@ -202,7 +208,7 @@ module _ (t : tables.Graph) (s : Traced) (likely low from start : ℕ) (was : Li
             long = ap suc h.long;
           }
 
-      pub stops_at : ((l : List ℕ) → Marks seen' l → along (tabled t) l likely low (block_at (tabled t) n) ≡ none) → Grown seen' reached' order' (suc e)
+      pub stops_at : ((l : List ℕ) → Marks seen' l → along (tabled t) l likely low (block_at (tabled t) n) ≡ None) → Grown seen' reached' order' (suc e)
       stops_at says =
           let m = marks_more seen seen' h.laid n marks h.marked in
           let q = says (n ∷ h.laid) m in
@@ -215,8 +221,8 @@ module _ (t : tables.Graph) (s : Traced) (likely low from start : ℕ) (was : Li
             ordered = put ∙ ap (λ (l : List ℕ). take start was ++ (l ++ drop (suc e) was)) (sym r);
             own = λ k i. own_more k (mem→ k (n ∷ h.laid) (subst T (sym (same k)) (→mem k (whole ++ s.laid) (In-left k whole s.laid i))));
           }
+      -- ---- turned
 
-  -- ---- turned
   module _ (seen reached order : List ℕ) (e : ℕ) (h : Grown seen reached order e) (before : start ≤ length was) where
     front : length (take start was) ≡ start
     front = length-take-le start was before
@@ -230,88 +236,97 @@ module _ (t : tables.Graph) (s : Traced) (likely low from start : ℕ) (was : Li
     apart : order ≡ (take start was ++ whole) ++ drop e was
     apart = h.ordered ∙ sym (append_assoc (take start was) whole (drop e was))
 
-    pub trace_is : slice start e order ≡ whole
-    trace_is = ap (drop start) (ap (take e) apart ∙ take_at (take start was ++ whole) (drop e was) e front_more) ∙ drop_at (take start was) whole start front
+    pub trace_is : between start e order ≡ whole
+    trace_is =
+        between_is order start e ∙ ap (drop start) (ap (take e) apart ∙ take_at (take start was ++ whole) (drop e was) e front_more) ∙ drop_at (take start was) whole start front
 
-    behind : drop e order ≡ drop e was
-    behind = ap (drop e) apart ∙ drop_at (take start was ++ whole) (drop e was) e front_more
+    behind : drop (e - start) (drop start order) ≡ drop e was
+    behind =
+        let z : start + (e - start) ≡ e = omega (arith, h.at) in
+        drop-drop (e - start) start order ∙ ap (λ (i : ℕ). drop i order) z ∙ ap (drop e) apart ∙ drop_at (take start was ++ whole) (drop e was) e front_more
 
-    pub turned : (turned : List ℕ) → e ≤ numbers
-        → turned ≡ take start order ++ (rotate (tabled t) (whole ++ s.laid) s.starts (slice start e order) ++ drop e order)
-        → Turned t s likely low from start was seen reached turned e
-    turned l few q = record {
-      laid_is = h.marked;
-      reached_is = h.reaches;
-      end = h.at;
-      few = few;
-      order_is = q ∙ rw (kept, trace_is, behind) refl;
-    }
+    pub turned : (r : List ℕ) → r ≡ rotate (tabled t) (whole ++ s.laid) s.starts (between start e order)
+        → put_mid start (e - start) order r ≡ take start was ++ (rotate (tabled t) (whole ++ s.laid) s.starts whole ++ drop e was)
+    turned r q = rw (kept, behind, q ∙ ap (rotate (tabled t) (whole ++ s.laid) s.starts) trace_is) refl
 
--- ---- by the tables
-module _ {t : tables.Graph} {marks weight first count to heft : List ℕ} (l : Flows t marks weight first count to heft) where
-  pub few_blocks : length (numbers_of (tabled t)) ≤ numbers
-  unfolding tabled numbers_of
-  few_blocks = omega (arith, length-map (tabled t) (λ (b : Block). b.number), up_to_length t.b t.a t.blocks, l.stands.few)
+    -- what is turned are numbers of blocks
+    pub trace_below : Sound t → Below (between start e order)
+    trace_below l i = rw trace_is (split_lt i (length whole) (λ k. omega (arith, small l (get_or whole i 0) (h.own (get_or whole i 0) (get_in whole i k)))) (λ k. omega (arith, get_or-eq_default whole 0 k)))
 
-  -- in every such graph the trace is on its way
-  pub room_for : (s : Traced) (likely low from start : ℕ) (was seen reached order : List ℕ) (e n : ℕ) → Going t s likely low from start was seen reached order e n → e < numbers
-  room_for s likely low from start was seen reached order e n h = omega (arith, few_blocks, room t s likely low from start was seen reached order e n h)
+-- ---- in a sound graph, whatever is held, the trace is on its way
+abbrev pub Grows : tables.Graph → ℕ → ℕ → ℕ → Growth → List ℕ → List ℕ → List ℕ → ℕ → ℕ → Type 0
+Grows t likely low from w seen reached order e n = (s : Traced) → Held t s w → Free t s from → Going t s likely low from (start_of w) w.made.order seen reached order e n
 
--- in every graph that has the tables and is ready, the trace is on its way
-abbrev pub Grows : List ℕ → List ℕ → List ℕ → List ℕ → List ℕ → List ℕ → List ℕ → ℕ → ℕ → ℕ → ℕ → ℕ → List ℕ → List ℕ → List ℕ → List ℕ → List ℕ → List ℕ → ℕ → ℕ → Type 0
-Grows marks weight first count to heft starts entry likely low from start seen₀ reached₀ order₀ seen reached order e n =
-    (t : tables.Graph) (s : Traced) → Flows t marks weight first count to heft → Ready t s entry from start seen₀ starts reached₀
-    → Going t s likely low from start order₀ seen reached order e n
+-- it is laid, and not turned yet
+abbrev pub GrownUp : tables.Graph → ℕ → ℕ → ℕ → Growth → List ℕ → List ℕ → List ℕ → ℕ → Type 0
+GrownUp t likely low from w seen reached order e = (s : Traced) → Held t s w → Free t s from → Grown t s likely low from (start_of w) w.made.order seen reached order e
 
-module _ (marks weight first count to heft starts : List ℕ) (entry likely low from start : ℕ) (seen₀ reached₀ order₀ : List ℕ) where
-  pub grows_first : Grows marks weight first count to heft starts entry likely low from start seen₀ reached₀ order₀ seen₀ reached₀ order₀ start from
-  grows_first t s l r = sets_out t s likely low from start order₀ l.whole entry seen₀ starts reached₀ r
+-- block n comes next, at place e
+pub record Next (t : tables.Graph) (w : Growth) (e n : ℕ) : Type 0 where
+  pub low : n < blocks
+  pub room : e < numbers
+  pub block : Of t n
+  pub behind : start_of w ≤ e
+  pub inside : e < length w.made.order
 
-  module _ (seen reached order : List ℕ) (e n : ℕ) (h : Grows marks weight first count to heft starts entry likely low from start seen₀ reached₀ order₀ seen reached order e n)
-      (seen' reached' order' : List ℕ) (fits : e < length order₀)
-      (marked : (m : ℕ) → member seen' m ≡ eqb m n || member seen m) (noted : Noted first count to heft n reached reached') (put : order' ≡ set order e n)
-      (r : Choice) (says : GoesOn marks weight first count to heft seen' likely low n r) (e' : ℕ) (next : e' ≡ suc e) where
-    before : (t : tables.Graph) (s : Traced) → Ready t s entry from start seen₀ starts reached₀ → Going t s likely low from start order₀ seen reached order e n → start ≤ length order₀
-    before t s d g = omega (arith, fits, g.at)
+module _ (t : tables.Graph) (l : Sound t) (likely low from : ℕ) (w : Growth) where
+  pub grows_first : Grows t likely low from w w.seen w.reached w.made.order (start_of w) from
+  grows_first s h f = sets_out t s likely low from (start_of w) w.made.order l.whole w.seen w.reached (ready l s w h from f)
 
-    pub grows_more : (q : ℕ) → r ≡ Arm q → Grows marks weight first count to heft starts entry likely low from start seen₀ reached₀ order₀ seen' reached' order' e' (get_or to q 0)
+  -- there is room for the block that comes next
+  pub grows_on : (a : Adds t w from) (seen reached order : List ℕ) (e n : ℕ) → Grows t likely low from w seen reached order e n → Next t w e n
+  grows_on a seen reached order e n h =
+      let g = h a.so_far a.held a.free in
+      let r = room_for t a.so_far likely low from (start_of w) w.made.order seen reached order e n g l in
+      record { low = omega (arith, small l n g.block); room = r; block = g.block; behind = omega (arith, g.at); inside = omega (arith, r, a.held.order_sized) }
+
+  module _ (seen reached order : List ℕ) (e n : ℕ) (h : Grows t likely low from w seen reached order e n)
+      (seen' reached' order' : List ℕ) (fits : e < length w.made.order)
+      (marked : (m : ℕ) → member seen' m ≡ eqb m n || member seen m) (noted : Noted t.a n reached reached') (put : order' ≡ set order e n)
+      (r : Option ℕ) (says : GoesOn t seen' likely low n r) (e' : ℕ) (next : e' ≡ suc e) where
+    pub before : (s : Traced) → Held t s w → Free t s from → start_of w ≤ length w.made.order
+    before s k f = omega (arith, fits, (h s k f).at)
+
+    pub grows_more : (q : ℕ) → r ≡ Some q → Grows t likely low from w seen' reached' order' e' (get_or t.a.to q 0)
+    unfolding arm_of arm_at
+    grows_more q c s k f =
+        let g = h s k f in
+        let told : (laid : List ℕ) → Marks seen' laid → along (tabled t) laid likely low (block_at (tabled t) n) ≡ Some (arm_at t.a q) =
+        λ laid m. sym (says l g.block laid m) ∙ ap (arm_of t.a) c in
+        subst (λ (i : ℕ). Going t s likely low from (start_of w) w.made.order seen' reached' order' i (get_or t.a.to q 0)) (sym next)
+        (goes_by t s likely low from (start_of w) w.made.order seen reached order e n g seen' reached' order' fits (before s k f) marked
+        (λ laid. noted t refl l g.block laid) put (arm_at t.a q) l.whole told)
+
+    pub grows_out : r ≡ None → GrownUp t likely low from w seen' reached' order' e'
     unfolding arm_of
-    grows_more q c t s l d =
-        let g = h t s l d in
-        let told : (k : List ℕ) → Marks seen' k → along (tabled t) k likely low (block_at (tabled t) n) ≡ some (arm_at t.a q) =
-        λ k m. sym (says t l g.block k m) ∙ ap (arm_of t.a) c in
-        subst (λ (m : ℕ). Going t s likely low from start order₀ seen' reached' order' e' m) (to_at l q)
-        (subst (λ (i : ℕ). Going t s likely low from start order₀ seen' reached' order' i (arm_at t.a q).to) (sym next)
-        (goes_by t s likely low from start order₀ seen reached order e n g seen' reached' order' fits (before t s d g) marked
-        (λ k. noted t marks weight l g.block k) put (arm_at t.a q) l.whole told))
+    grows_out c s k f =
+        let g = h s k f in
+        let told : (laid : List ℕ) → Marks seen' laid → along (tabled t) laid likely low (block_at (tabled t) n) ≡ None =
+        λ laid m. sym (says l g.block laid m) ∙ ap (arm_of t.a) c in
+        subst (λ (i : ℕ). Grown t s likely low from (start_of w) w.made.order seen' reached' order' i) (sym next)
+        (stops_at t s likely low from (start_of w) w.made.order seen reached order e n g seen' reached' order' fits (before s k f) marked
+        (λ laid. noted t refl l g.block laid) put told)
 
-    pub grows_out : r ≡ Nothing → (t : tables.Graph) (s : Traced) → Flows t marks weight first count to heft → Ready t s entry from start seen₀ starts reached₀
-        → Grown t s likely low from start order₀ seen' reached' order' e'
-    unfolding arm_of
-    grows_out c t s l d =
-        let g = h t s l d in
-        let told : (k : List ℕ) → Marks seen' k → along (tabled t) k likely low (block_at (tabled t) n) ≡ none =
-        λ k m. sym (says t l g.block k m) ∙ ap (arm_of t.a) c in
-        subst (λ (i : ℕ). Grown t s likely low from start order₀ seen' reached' order' i) (sym next)
-        (stops_at t s likely low from start order₀ seen reached order e n g seen' reached' order' fits (before t s d g) marked
-        (λ k. noted t marks weight l g.block k) put told)
+    module _ (c : r ≡ None) (start : ℕ) (is : start ≡ start_of w) where
+      -- what is turned are numbers of blocks
+      pub grows_below : Adds t w from → Below (between start e' order')
+      grows_below a =
+          subst (λ (i : ℕ). Below (between i e' order')) (sym is)
+          (trace_below t a.so_far likely low from (start_of w) w.made.order seen' reached' order' e' (grows_out c a.so_far a.held a.free) (before a.so_far a.held a.free) l)
 
-    -- turned, it is what the rule makes
-    pub grows_turned : r ≡ Nothing → (turned' : List ℕ) → Rotated marks weight first count to heft seen' starts entry start e' order' turned'
-        → Traces marks weight first count to heft starts entry likely low from start seen₀ reached₀ order₀ seen' reached' turned' e'
-    grows_turned c turned' rotated t s l d =
-        let o = grows_out c t s l d in
-        let g = h t s l d in
-        let b = before t s d g in
-        turned t s likely low from start order₀ seen' reached' order' e' o b turned' (omega (arith, next, room_for l s likely low from start order₀ seen reached order e n g))
-        (rotated t l d.entry_is (λ m i. o.own m (subst (In m) (trace_is t s likely low from start order₀ seen' reached' order' e' o b) i)) (trace_of t s likely low from ++ s.laid) s.starts o.marked
-        d.starts_are)
-
--- one number of a block more
-pub below_more : (order : List ℕ) (e n e' : ℕ) → e < length order → n < blocks → ((i : ℕ) → i < e → get_or order i 0 < blocks) → e' ≡ suc e → (i : ℕ) → i < e' → get_or (set order e n) i 0 < blocks
-below_more order e n e' h k below q i l =
-    split_lt i e (λ j. omega (arith, below i j, get_or-set_other order e i n 0 (λ z. omega (arith, j, z))))
-    (λ j. let z : i ≡ e = omega (arith, l, q, j) in omega (arith, k, get_or-set_same order e n 0 h, ap (λ (m : ℕ). get_or (set order e n) m 0) z))
-
-pub held_arm : (r : Choice) (q a b : ℕ) → r ≡ Arm q → Within a b r → q < b
-held_arm r q a b e h = (subst (Within a b) e h).1
+      -- turned, it is what the rule makes
+      pub grows_turned : (entry : Option ℕ) (starts : List ℕ) → entry ≡ w.entry → starts ≡ w.starts → (k : List ℕ) → Rotated t seen' starts entry (between start e' order') k → (v : Growth) → v.seen ≡ seen' → v.reached ≡ reached'
+          → v.made.order ≡ put_mid start (e' - start) order' k → Turned t likely low from w v e'
+      grows_turned entry starts ee es k rotated v vs vr vo s d f =
+          let o = grows_out c s d f in
+          let b = before s d f in
+          let q = subst (λ (i : ℕ). Rotated t seen' starts entry (between i e' order') k) is rotated in
+          let own = λ (m : ℕ) (i : In m (between (start_of w) e' order')). o.own m (subst (In m) (trace_is t s likely low from (start_of w) w.made.order seen' reached' order' e' o b) i) in
+          let r = q l (ee ∙ d.entry_is) own (trace_of t s likely low from ++ s.laid) s.starts o.marked (subst (λ (j : List ℕ). Marks j s.starts) (sym es) d.starts_are) in
+          record {
+            laid_is = subst (λ (j : List ℕ). Marks j (trace_of t s likely low from ++ s.laid)) (sym vs) o.marked;
+            reached_is = subst (Reached t (trace_of t s likely low from ++ s.laid)) (sym vr) o.reaches;
+            end = o.at;
+            few = omega (arith, next, room_for t s likely low from (start_of w) w.made.order seen reached order e n (h s d f) l);
+            order_is = vo ∙ ap (λ (i : ℕ). put_mid i (e' - i) order' k) is ∙ turned t s likely low from (start_of w) w.made.order seen' reached' order' e' o b k r;
+          }

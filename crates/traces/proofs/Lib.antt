@@ -1,5 +1,6 @@
-pub mod GrowLaws
 pub mod HeldLaws
+pub mod GrowLaws
+pub mod AddLaws
 pub mod FillLaws
 pub mod RoundLaws
 pub mod JoinLaws

@@ -1,333 +1,203 @@
 // Runs of blocks that mostly follow each other, found in four rounds and put one after the other.
-//
-// The traces stand in `order` as they are found: trace k ends before place ends[k], and the next begins there. Beside
-// them three tables by block number go along: what is laid, what starts a trace, and the heaviest arm in from what is
-// laid.
 #![tactic(auto)]
 
-ghost use Rattle.std.specs.Prelude.{◌≡◌, ℕ, ◌≤◌, ◌<◌, length, get_or, take};
-ghost use Rattle.limits.specs.Limits.{blocks};
-ghost use Rattle.rules.specs.Weights.{scale};
-ghost use Rattle.marks.specs.Sets.{room};
-ghost use Rattle.traces.specs.Growing.{Begins, Traces};
-ghost use Rattle.traces.specs.Held.{Roomy, Adds, Added, Fills, Filled};
-ghost use Rattle.traces.specs.Rounds.{round_at, Opens, Opened, Turns, Rounded, entered_by, Finds, Found, Lent, Joined};
+ghost use Rattle.std.specs.Prelude.{◌≡◌, ◌+◌, ◌≤◌};
+ghost use Rattle.rules.specs.Weights.{scale, floor};
+ghost use Rattle.rules.specs.Join.{connect};
+ghost use Rattle.rules.specs.Traces.{entered_weight, no_traces, entry_trace, traces};
+ghost use Rattle.rules.specs.Graph as graph;
+ghost use Rattle.records.specs.declared.Graph.{Graph};
+ghost use Rattle.records.specs.Tables.{tabled, in_order, Sound};
+ghost use Rattle.traces.specs.Held.{Held, Holds, Steps, Adds, Added};
+ghost use Rattle.traces.specs.Growing.{Kept, Turned};
+ghost use Rattle.traces.specs.Rounds.{Plain, filled, all_rounds, all_traced};
 
-use flow::Choice;
-use limits::{ARMS, BLOCKS};
-use records::{Order, entry};
-use seeds::Start;
+use connect::Traces;
+use limits::BLOCKS;
+use marks::Set;
+use records::{Graph, Order};
 
 // What a graph without an entry is entered by.
 const ONCE: u64 = 10000;
 
-// How many rounds there are.
-const ROUNDS: usize = 4;
-
 // "as (likely, often)"
-#[derive(Drop)]
+#[derive(Clone, Copy)]
 pub struct Round {
     pub likely: u64,
     pub often: u64,
 }
 
-// The trace from a block that is not laid, at the places from `start` on, and turned as it ends. The place behind it.
-fn trace<'a>(
-    marks: &'a [u8; BLOCKS],
-    weight: &'a [u64; BLOCKS],
-    first: &'a [u16; BLOCKS],
-    count: &'a [u16; BLOCKS],
-    to: &'a [u16; ARMS],
-    heft: &'a [u64; ARMS],
-    starts: &'a [u8; marks::ROOM],
-    entry: usize,
-    likely: u64,
-    low: u64,
-    from: u16,
-    start: usize,
-    seen: &mut [u8; marks::ROOM],
-    reached: &mut [u64; BLOCKS],
-    order: &mut [u16; BLOCKS],
-) -> usize
-    requires begins { Begins marks.now weight.now first.now count.now to.now heft.now entry from start seen.old starts.now reached.old }
-    requires seen_len { (length seen.old ≡ room) × (length starts.now ≡ room) × (length reached.old ≡ blocks) × (length order.old ≡ blocks) × (likely ≤ scale) }
-    requires by_index { (i : ℕ) → i < start → get_or order.old i 0 < blocks }
-    ensures seen_len_2 { (length seen.new ≡ room) × (length reached.new ≡ blocks) × (length order.new ≡ blocks) }
-    ensures traces { Traces marks.now weight.now first.now count.now to.now heft.now starts.now entry likely low from start seen.old reached.old order.old seen.new reached.new order.new result }
+// "Rounds (4000,5000), (2000,2000), (1000,500), (0,0)"
+const ROUNDS: [Round; 4] = [
+    Round {
+        likely: 4000,
+        often: 5000,
+    },
+    Round {
+        likely: 2000,
+        often: 2000,
+    },
+    Round {
+        likely: 1000,
+        often: 500,
+    },
+    Round {
+        likely: 0,
+        often: 0,
+    },
+];
+
+// What a round asks of an arm: its share of its block's weight, and its weight, which it asks of a start too.
+#[derive(Clone, Copy)]
+pub struct Bar {
+    pub likely: u64,
+    pub low: u64,
+    ghost small: { likely ≤ scale },
+}
+
+impl Round {
+    fn bar(&self, entered: u64) -> Bar
+        requires { (self.now.likely ≤ scale) × (self.now.often ≤ scale) }
+        ensures likely { result.likely ≡ self.now.likely }
+        ensures low { result.low ≡ floor entered self.now.often }
+    {
+        Bar {
+            likely: self.likely,
+            low: weights::floor(entered, self.often),
+        }
+    }
+}
+
+// What has grown so far: the blocks that are laid, those that start a trace, by block number the heaviest arm in from
+// what is laid, and the traces. The entry stays.
+#[derive(Drop)]
+pub struct Growth {
+    pub entry: Option<u16>,
+    pub seen: Set,
+    pub starts: Set,
+    pub reached: [u64; BLOCKS],
+    pub made: Traces,
+}
+
+impl Growth {
+    // Nothing is laid.
+    fn new(entry: Option<u16>) -> Self
+        ensures { (g : Graph) → entry ≡ graph.entry (tabled g) → Held g no_traces result }
+    {
+        Growth {
+            entry,
+            seen: marks::none(),
+            starts: marks::none(),
+            reached: [0; BLOCKS],
+            made: Traces::empty(),
+        }
+    }
+}
+
+// The trace from a block that is not laid, behind those found, and turned as it ends. The place behind it.
+fn trace(g: &Graph, bar: Bar, from: u16, w: &mut Growth) -> usize
+    requires sound { Sound g.now }
+    requires adds { Adds g.now w.old from }
+    ensures kept { Kept w.old w.new }
+    ensures turned { Turned g.now bar.likely bar.low from w.old w.new result }
 {
+    let start = w.made.begin(w.made.len);
     let mut n = from;
     let mut at = start;
     loop {
-        marks::mark(seen, n);
-        order[at] = n;
-        at = at + 1;
-        seeds::note(first, count, to, heft, n, reached);
-        let next = along::along(marks, weight, first, count, to, heft, seen, likely, low, n);
-        let Choice::Arm(q) = next else {
-            rotate::rotate(
-                marks, weight, first, count, to, heft, seen, starts, entry, start, at, order,
-            );
+        marks::mark(&mut w.seen, n);
+        w.made.order[at] = n;
+        at += 1;
+        seeds::note(&g.a, n, &mut w.reached);
+        let Some(q) = along::along(g, &w.seen, bar.likely, bar.low, n) else {
+            rotate::rotate(g, &w.seen, &w.starts, w.entry, &mut w.made.order[start..at]);
             return at;
         };
-        n = to[q];
+        n = g.a.to[q];
     }
 }
 
 // One trace more, from a block that is not laid, behind those found.
-fn add_trace<'a>(
-    marks: &'a [u8; BLOCKS],
-    weight: &'a [u64; BLOCKS],
-    first: &'a [u16; BLOCKS],
-    count: &'a [u16; BLOCKS],
-    to: &'a [u16; ARMS],
-    heft: &'a [u64; ARMS],
-    entry: usize,
-    likely: u64,
-    low: u64,
-    from: u16,
-    found: usize,
-    seen: &mut [u8; marks::ROOM],
-    starts: &mut [u8; marks::ROOM],
-    reached: &mut [u64; BLOCKS],
-    order: &mut [u16; BLOCKS],
-    ends: &mut [u16; BLOCKS],
-)
-    requires adds { Adds marks.now weight.now first.now count.now to.now heft.now entry from seen.old starts.old reached.old order.old ends.old found }
-    requires roomy { Roomy seen.old starts.old reached.old order.old ends.old × (likely ≤ scale) }
-    ensures roomy_2 { Roomy seen.new starts.new reached.new order.new ends.new }
-    ensures added { Added marks.now weight.now first.now count.now to.now heft.now entry likely low from seen.old starts.old reached.old order.old ends.old found seen.new starts.new reached.new order.new ends.new }
+#[tactic(auto, using(crate::proofs::AddLaws::add_steps))]
+fn add_trace(g: &Graph, bar: Bar, from: u16, w: &mut Growth)
+    requires sound { Sound g.now }
+    requires adds { Adds g.now w.old from }
+    ensures added { Added g.now bar.likely bar.low from w.old w.new }
+    ensures len { w.new.made.len ≡ w.old.made.len + 1 }
 {
-    let start = connect::begin(ends, found);
-    let e = trace(
-        marks, weight, first, count, to, heft, starts, entry, likely, low, from, start, seen,
-        reached, order,
-    );
-    marks::mark(starts, order[start]);
-    ends[found] = e as u16;
+    let end = trace(g, bar, from, w);
+    let k = w.made.len;
+    let first = w.made.order[w.made.begin(k)];
+    marks::mark(&mut w.starts, first);
+    w.made.ends[k] = end as u16;
+    w.made.len = k + 1;
 }
 
-// Traces behind those found, for as long as a block of the plain order can start one; how many there are then.
-fn fill<'a>(
-    marks: &'a [u8; BLOCKS],
-    weight: &'a [u64; BLOCKS],
-    first: &'a [u16; BLOCKS],
-    count: &'a [u16; BLOCKS],
-    to: &'a [u16; ARMS],
-    heft: &'a [u64; ARMS],
-    entry: usize,
-    plain: &'a [u16; BLOCKS],
-    n: usize,
-    likely: u64,
-    low: u64,
-    found: usize,
-    seen: &mut [u8; marks::ROOM],
-    starts: &mut [u8; marks::ROOM],
-    reached: &mut [u64; BLOCKS],
-    order: &mut [u16; BLOCKS],
-    ends: &mut [u16; BLOCKS],
-) -> usize
-    requires fills { Fills marks.now weight.now first.now count.now to.now heft.now entry (take n plain.now) seen.old starts.old reached.old order.old ends.old found }
-    requires roomy { Roomy seen.old starts.old reached.old order.old ends.old × (likely ≤ scale) × (length plain.now ≡ blocks) × (n ≤ blocks) }
-    ensures roomy_2 { Roomy seen.new starts.new reached.new order.new ends.new }
-    ensures filled { Filled marks.now weight.now first.now count.now to.now heft.now entry (take n plain.now) likely low seen.old starts.old reached.old order.old ends.old found seen.new starts.new reached.new order.new ends.new result }
+// Traces behind those found, for as long as a block of the plain order can start one.
+fn fill(g: &Graph, plain: &Order, bar: Bar, w: &mut Growth)
+    requires sound { Sound g.now }
+    requires plain { Plain g.now plain.now }
+    requires holds { Holds g.now w.old }
+    ensures { Steps g.now (filled (tabled g.now) bar.likely bar.low) w.old w.new }
 {
-    let mut k = found;
-    loop {
-        let next = seeds::next_seed(marks, weight, plain, n, seen, reached, low);
-        let Start::At(from) = next else {
-            return k;
-        };
-        add_trace(
-            marks, weight, first, count, to, heft, entry, likely, low, from, k, seen, starts,
-            reached, order, ends,
-        );
-        k = k + 1;
-    }
-}
-
-// "Rounds (4000,5000), (2000,2000), (1000,500), (0,0)", counted from 0.
-fn nth_round(i: usize) -> Round
-    ensures { (result.likely ≡ (round_at i).likely) × (result.often ≡ (round_at i).often) }
-{
-    if i == 0 {
-        return Round {
-            likely: 4000,
-            often: 5000,
-        };
-    }
-    if i == 1 {
-        return Round {
-            likely: 2000,
-            often: 2000,
-        };
-    }
-    if i == 2 {
-        return Round {
-            likely: 1000,
-            often: 500,
-        };
-    }
-    Round {
-        likely: 0,
-        often: 0,
+    while let Some(from) = seeds::next_seed(&g.b, plain, &w.seen, &w.reached, bar.low) {
+        add_trace(g, bar, from, w);
     }
 }
 
 // "Round one starts at the entry": its trace, where there is an entry, with nothing laid before.
-fn enter<'a>(
-    marks: &'a [u8; BLOCKS],
-    weight: &'a [u64; BLOCKS],
-    first: &'a [u16; BLOCKS],
-    count: &'a [u16; BLOCKS],
-    to: &'a [u16; ARMS],
-    heft: &'a [u64; ARMS],
-    entry: usize,
-    entered: u64,
-    seen: &mut [u8; marks::ROOM],
-    starts: &mut [u8; marks::ROOM],
-    reached: &mut [u64; BLOCKS],
-    order: &mut [u16; BLOCKS],
-    ends: &mut [u16; BLOCKS],
-) -> usize
-    requires opens { Opens marks.now weight.now first.now count.now to.now heft.now entry entered seen.old starts.old reached.old order.old ends.old }
-    requires roomy { Roomy seen.old starts.old reached.old order.old ends.old }
-    ensures roomy_2 { Roomy seen.new starts.new reached.new order.new ends.new }
-    ensures opened { Opened marks.now weight.now first.now count.now to.now heft.now entry entered seen.old starts.old reached.old order.old ends.old seen.new starts.new reached.new order.new ends.new result }
+fn enter(g: &Graph, entered: u64, w: &mut Growth)
+    requires sound { Sound g.now × (entered ≡ entered_weight (tabled g.now)) }
+    requires held { Held g.now no_traces w.old }
+    ensures { Held g.now (entry_trace (tabled g.now)) w.new }
 {
-    if BLOCKS <= entry {
-        return 0;
+    if let Some(from) = w.entry {
+        add_trace(g, ROUNDS[0].bar(entered), from, w);
     }
-    let one = nth_round(0);
-    let likely = one.likely;
-    let low = weights::floor(entered, one.often);
-    let from = entry as u16;
-    add_trace(
-        marks, weight, first, count, to, heft, entry, likely, low, from, 0, seen, starts, reached,
-        order, ends,
-    );
-    1
 }
 
-// The traces of all rounds behind those found; how many there are then.
-fn rounds<'a>(
-    marks: &'a [u8; BLOCKS],
-    weight: &'a [u64; BLOCKS],
-    first: &'a [u16; BLOCKS],
-    count: &'a [u16; BLOCKS],
-    to: &'a [u16; ARMS],
-    heft: &'a [u64; ARMS],
-    entry: usize,
-    entered: u64,
-    plain: &'a [u16; BLOCKS],
-    n: usize,
-    found: usize,
-    seen: &mut [u8; marks::ROOM],
-    starts: &mut [u8; marks::ROOM],
-    reached: &mut [u64; BLOCKS],
-    order: &mut [u16; BLOCKS],
-    ends: &mut [u16; BLOCKS],
-) -> usize
-    requires turns { Turns marks.now weight.now first.now count.now to.now heft.now entry entered (take n plain.now) seen.old starts.old reached.old order.old ends.old found }
-    requires roomy { Roomy seen.old starts.old reached.old order.old ends.old × (length plain.now ≡ blocks) × (n ≤ blocks) }
-    ensures roomy_2 { Roomy seen.new starts.new reached.new order.new ends.new }
-    ensures rounded { Rounded marks.now weight.now first.now count.now to.now heft.now entry entered (take n plain.now) seen.old starts.old reached.old order.old ends.old found seen.new starts.new reached.new order.new ends.new result }
+// The traces of all rounds behind those found.
+fn rounds(g: &Graph, plain: &Order, entered: u64, w: &mut Growth)
+    requires sound { Sound g.now × (entered ≡ entered_weight (tabled g.now)) }
+    requires plain { Plain g.now plain.now }
+    requires holds { Holds g.now w.old }
+    ensures { Steps g.now (all_rounds (tabled g.now)) w.old w.new }
 {
-    let mut k = found;
-    let mut i: usize = 0;
-    while i < ROUNDS {
-        let r = nth_round(i);
-        let likely = r.likely;
-        let low = weights::floor(entered, r.often);
-        k = fill(
-            marks, weight, first, count, to, heft, entry, plain, n, likely, low, k, seen, starts,
-            reached, order, ends,
-        );
-        i = i + 1;
+    for r in &ROUNDS {
+        fill(g, plain, r.bar(entered), w);
     }
-    k
 }
 
 // "entry weight (ONCE if no entry)"
-fn entered_weight(weight: &[u64; BLOCKS], entry: usize) -> u64
-    requires { length weight.now ≡ blocks }
-    ensures { result ≡ entered_by weight.now entry }
+fn entered_weight(g: &Graph, entry: Option<u16>) -> u64
+    requires { Sound g.now × (entry ≡ graph.entry (tabled g.now)) }
+    ensures { result ≡ entered_weight (tabled g.now) }
 {
-    if BLOCKS <= entry {
-        return ONCE;
+    match entry {
+        Some(n) => g.b.weight_of(n),
+        None => ONCE,
     }
-    weight[entry]
 }
 
-// All traces, with nothing laid before; how many there are.
-fn find<'a>(
-    marks: &'a [u8; BLOCKS],
-    weight: &'a [u64; BLOCKS],
-    first: &'a [u16; BLOCKS],
-    count: &'a [u16; BLOCKS],
-    to: &'a [u16; ARMS],
-    heft: &'a [u64; ARMS],
-    entry: usize,
-    plain: &'a [u16; BLOCKS],
-    n: usize,
-    seen: &mut [u8; marks::ROOM],
-    starts: &mut [u8; marks::ROOM],
-    reached: &mut [u64; BLOCKS],
-    order: &mut [u16; BLOCKS],
-    ends: &mut [u16; BLOCKS],
-) -> usize
-    requires finds { Finds marks.now weight.now first.now count.now to.now heft.now entry (take n plain.now) seen.old starts.old reached.old order.old ends.old }
-    requires roomy { Roomy seen.old starts.old reached.old order.old ends.old × (length plain.now ≡ blocks) × (n ≤ blocks) }
-    ensures roomy_2 { Roomy seen.new starts.new reached.new order.new ends.new }
-    ensures found { Found marks.now weight.now first.now count.now to.now heft.now entry (take n plain.now) seen.old starts.old reached.old order.old ends.old seen.new starts.new reached.new order.new ends.new result }
+// All traces, with nothing laid before.
+fn find(g: &Graph, plain: &Order, w: &mut Growth)
+    requires sound { Sound g.now }
+    requires plain { Plain g.now plain.now }
+    requires held { Held g.now no_traces w.old }
+    ensures { Held g.now (all_traced (tabled g.now)) w.new }
 {
-    let entered = entered_weight(weight, entry);
-    let one = enter(
-        marks, weight, first, count, to, heft, entry, entered, seen, starts, reached, order, ends,
-    );
-    rounds(
-        marks, weight, first, count, to, heft, entry, entered, plain, n, one, seen, starts,
-        reached, order, ends,
-    )
+    let entered = entered_weight(g, w.entry);
+    enter(g, entered, w);
+    rounds(g, plain, entered, w);
 }
 
 // The blocks in the order of their traces, joined.
-pub fn traces<'a>(
-    listed: &'a [u16; BLOCKS],
-    marks: &'a [u8; BLOCKS],
-    weight: &'a [u64; BLOCKS],
-    first: &'a [u16; BLOCKS],
-    count: &'a [u16; BLOCKS],
-    to: &'a [u16; ARMS],
-    heft: &'a [u64; ARMS],
-    n: usize,
-) -> Order
-    requires { Lent listed.now marks.now weight.now first.now count.now to.now heft.now n }
-    ensures { Joined listed.now marks.now weight.now first.now count.now to.now heft.now n result }
+pub fn traces(g: &Graph) -> Order
+    requires { Sound g.now }
+    ensures { (in_order result ≡ connect (tabled g.now) (traces (tabled g.now))) × (result.len ≡ g.now.blocks) }
 {
-    let plain = walks::order(listed, marks, first, count, to, n);
-    let block = plain.block;
-    let len = plain.len;
-    let entry = entry::find(listed, marks, n);
-    let mut seen = marks::none();
-    let mut starts = marks::none();
-    let mut reached: [u64; BLOCKS] = [0; BLOCKS];
-    let mut order: [u16; BLOCKS] = [0; BLOCKS];
-    let mut ends: [u16; BLOCKS] = [0; BLOCKS];
-    let found = find(
-        marks,
-        weight,
-        first,
-        count,
-        to,
-        heft,
-        entry,
-        &block,
-        len,
-        &mut seen,
-        &mut starts,
-        &mut reached,
-        &mut order,
-        &mut ends,
-    );
-    connect::connect(marks, first, count, to, heft, &order, &ends, found)
+    let plain = walks::order(g);
+    let mut w = Growth::new(g.entry());
+    find(g, &plain, &mut w);
+    connect::connect(g, &w.made)
 }

@@ -5,4 +5,3 @@ pub mod VisitLaws
 pub mod OrderLaws
 pub mod RootLaws
 pub mod GraphLaws
-pub mod LentLaws

@@ -1,177 +1,130 @@
 -- One removal from the stack, as the code does it over its tables, is one of the rules' machine. Assumes nothing.
-use Prim.Native.Nat.{ℕ, zero, suc, ◌+◌, ◌≤◌, ◌<◌}
-use native.Mathlib.Numerals.{add-one}
-use native.Mathlib.Omega.{arith}
-use mathlib.Core.Path.{◌≡◌, refl, sym, ap, ◌∙◌, subst}
-use mathlib.Core.Bool.{Bool, true, false, ◌||◌}
-use mathlib.Core.Logic.{inl, inr}
-use mathlib.Core.List.{List, [], ◌∷◌}
-use lib.Dec.{T, eqb, ltb}
-use lib.ListN.{length, get_or, set, length-set}
-use lib.Seq.{get_or-set_same, get_or-set_other}
+use Rattle.std.proofs.Common.{ℕ, zero, suc, ◌+◌, ◌≤◌, ◌<◌, ◌≡◌, Bool, true, false, ◌||◌, List, [], ◌∷◌, ◌++◌, length, get_or, inl, inr, refl, sym, ap, ◌∙◌, subst, arith, add-one, T, eqb, ltb}
+use Rattle.std.proofs.lemmas.List.{reverse-append}
 use borrow.Author.Tests.{lt-ltb}
-use Rattle.limits.specs.Limits.{blocks, arms}
-use Rattle.marks.proofs.SetLaws.{eqb_turn}
-use Rattle.marks.specs.Sets.{room, member}
+use Rattle.limits.specs.Limits.{blocks}
+use Rattle.marks.proofs.SetLaws.{eqb_turn, size_more}
+use Rattle.marks.specs.Sets.{member, size}
 use Rattle.rules.specs.Lists.{any, mem}
 use Rattle.rules.specs.Graph.{Graph, numbers_of}
-use Rattle.rules.specs.PlainOrder.{Walk}
+use Rattle.rules.specs.PlainOrder as rules
 use Rattle.rules.proofs.Membership.{In}
-use Rattle.rules.proofs.PlainVisit.{todo, enter, finish, todo_listed}
+use Rattle.rules.proofs.PlainVisit.{todo, enter, finish}
 use Rattle.rules.proofs.StackWalk.{Frame, State, run, pop, pop_end, pop_old, pop_new}
+use Rattle.records.specs.declared.Order.{Order}
+use Rattle.records.specs.Tables.{in_order}
 use Rattle.stack.specs.Frames.{frame}
-use Rattle.walks.specs.Walking.{last_first, ArmsOf, Stacked, Started, backwards, Shows, state, Ends, Walks}
-use Rattle.walks.proofs.ArmLaws.{last_length}
+use Rattle.walks.specs.declared.Walk.{Walk}
+use Rattle.walks.specs.Walking.{Stacked, Counted, Shows}
+
+pub get_or-In : (l : List ℕ) (i : ℕ) → i < length l → In (get_or l i 0) l
+get_or-In [] i h = absurd (omega (arith, h))
+get_or-In (x ∷ l) zero h = inl refl
+get_or-In (x ∷ l) (suc i) h = inr (get_or-In l i (omega (arith, h)))
 
 -- ---- what the tables show
-pub shows_enter : (w : Walk) (seen done : List ℕ) (n t : ℕ) (seen' : List ℕ) → Shows w seen done n → ((m : ℕ) → member seen' m ≡ eqb m t || member seen m) → Shows (enter w t) seen' done n
+pub shows_enter : {v : rules.Walk} {w : Walk} (t : ℕ) (seen : List ℕ) → Shows v w → ((m : ℕ) → member seen m ≡ eqb m t || member w.seen m) → Shows (enter v t) (record { seen = seen; done = w.done })
 unfolding enter mem any
-shows_enter w seen done n t seen' h s = record {
-  seen_is = λ m. s m ∙ ap (λ (b : Bool). b || member seen m) (eqb_turn m t) ∙ ap (λ (b : Bool). eqb t m || b) (h.seen_is m);
+shows_enter {v} {w} t seen h s = record {
+  seen_is = λ m. s m ∙ ap (λ (b : Bool). b || member w.seen m) (eqb_turn m t) ∙ ap (λ (b : Bool). eqb t m || b) (h.seen_is m);
   done_is = h.done_is;
+  long = h.long;
 }
 
-backwards_keep : (l : List ℕ) (n i b : ℕ) → n ≤ i → backwards (set l i b) n ≡ backwards l n
-unfolding backwards
-backwards_keep l zero i b h = refl
-backwards_keep l (suc n) i b h =
-    let ne : n ≡ i → ⊥ = omega arith in
-    rw (get_or-set_other l i n b 0 ne, backwards_keep l n i b (omega arith))
-
-pub shows_finish : (w : Walk) (seen done : List ℕ) (n b : ℕ) → Shows w seen done n → n < length done → Shows (finish w b) seen (set done n b) (n + 1)
-unfolding finish backwards
-shows_finish w seen done n b h l = record {
-  seen_is = h.seen_is;
-  done_is = rw (add-one, get_or-set_same done n b 0 l, backwards_keep done n n b (omega arith)) (ap (λ (r : List ℕ). b ∷ r) h.done_is);
-}
+shows_finish : {v : rules.Walk} {w : Walk} (b : ℕ) (done : Order) → Shows v w → in_order done ≡ in_order w.done ++ b ∷ [] → done.len ≡ w.done.len + 1 → Shows (finish v b) (record { seen = w.seen; done = done })
+unfolding finish
+shows_finish {v} {w} b done h e n = record { seen_is = h.seen_is; done_is = e ∙ ap (λ (l : List ℕ). l ++ b ∷ []) h.done_is ∙ sym (reverse-append (b ∷ []) v.done); long = omega (arith, h.long, n) }
 
 -- ---- the machine
-module _ (g : Graph) where
-  pub ends_more : (st : List Frame) (w : Walk) (x : State) → Ends g (pop g st w) x → Ends g (state st w) x
-  unfolding run
-  ends_more st w x e = (suc e.0, e.1)
+abbrev pub state : List Frame → rules.Walk → State
+state st w = record { stack = st; walk = w }
 
+-- some removals lead from one state to the other
+abbrev pub Ends : Graph → State → State → Type 0
+Ends g s x = (k : ℕ) × (run g k s ≡ x)
+
+module _ (g : Graph) where
   -- from s the walk has come to this stack and these tables
-  pub record Along (s : State) (st : List Frame) (seen done : List ℕ) (n : ℕ) : Type 0 where
-    pub walk : Walk
-    pub shows : Shows walk seen done n
-    pub stacked : Stacked g st
+  pub record Along (s : State) (st : List Frame) (w : Walk) : Type 0 where
+    pub walk : rules.Walk
+    pub shows : Shows walk w
     pub onward : (x : State) → Ends g (state st walk) x → Ends g s x
 
-  get_d-In : (l : List ℕ) (i : ℕ) → i < length l → In (get_or l i 0) l
-  get_d-In [] i h = absurd (omega arith)
-  get_d-In (x ∷ l) zero h = inl refl
-  get_d-In (x ∷ l) (suc i) h = inr (get_d-In l i (omega arith))
-
-  module _ (first count to : List ℕ) (has : ArmsOf first count to g) (b : ℕ) (i : In b (numbers_of g)) where
-    arms_length : length (todo g b) ≡ get_or count b 0
-    arms_length = ap length (has.same b i) ∙ last_length to (get_or first b 0) (get_or count b 0)
-
-    pub arm_in : (j : ℕ) → j < get_or count b 0 → In (get_or (last_first to (get_or first b 0) (get_or count b 0)) j 0) (numbers_of g)
-    arm_in j h =
-        subst (λ (l : List ℕ). In (get_or l j 0) (numbers_of g)) (has.same b i)
-        (todo_listed g has.whole b i (get_or (todo g b) j 0) (get_d-In (todo g b) j (omega (arith, h, arms_length))))
-
-    module _ (s : State) (j : ℕ) (st : List Frame) (seen done : List ℕ) (n : ℕ) (a : Along s (frame b j ∷ st) seen done n) where
-      along_end : get_or count b 0 ≤ j → n < length done → Along s st seen (set done n b) (n + 1)
-      along_end h l = record {
-        walk = finish a.walk b;
-        shows = shows_finish a.walk seen done n b a.shows l;
-        stacked = a.stacked.1;
-        onward = λ x e. a.onward x (ends_more (frame b j ∷ st) a.walk x (subst (λ (y : State). Ends g y x) (sym (pop_end g b j st a.walk (omega (arith, h, arms_length)))) e));
-      }
-
-      module _ (t : ℕ) (h : j < get_or count b 0) (is : t ≡ get_or (last_first to (get_or first b 0) (get_or count b 0)) j 0) where
-        below : T (ltb j (length (todo g b)))
-        below = rw (arms_length, lt-ltb j (get_or count b 0) h) tt
-
-        goes : t ≡ get_or (todo g b) j 0
-        goes = is ∙ ap (λ (l : List ℕ). get_or l j 0) (sym (has.same b i))
-
-        up : Stacked g (frame b (j + 1) ∷ st)
-        up = ((i, omega (arith, h, arms_length)), a.stacked.1)
-
-        along_old : member seen t ≡ true → Along s (frame b (j + 1) ∷ st) seen done n
-        along_old m = record {
-          walk = a.walk;
-          shows = a.shows;
-          stacked = up;
-          onward = λ x e. a.onward x
-              (ends_more (frame b j ∷ st) a.walk x
-              (subst (λ (y : State). Ends g y x)
-              (sym (pop_old g b j st a.walk below (rw (← goes, ← a.shows.seen_is t, m) tt) ∙ ap (λ (k : ℕ). state (frame b k ∷ st) a.walk) (sym (add-one j)))) e));
-        }
-
-        along_new : (seen' : List ℕ) → member seen t ≡ false → ((m : ℕ) → member seen' m ≡ eqb m t || member seen m) → Along s (frame t 0 ∷ frame b (j + 1) ∷ st) seen' done n
-        along_new seen' m w = record {
-          walk = enter a.walk t;
-          shows = shows_enter a.walk seen done n t seen' a.shows w;
-          stacked = ((subst (λ (k : ℕ). In k (numbers_of g)) (sym is) (arm_in j h), omega arith), up);
-          onward = λ x e. a.onward x
-              (ends_more (frame b j ∷ st) a.walk x
-              (subst (λ (y : State). Ends g y x)
-              (sym (pop_new g b j st a.walk below (rw (← goes, ← a.shows.seen_is t, m) tt)
-              ∙ ap (λ (k : ℕ). state (frame k 0 ∷ frame b (suc j) ∷ st) (enter a.walk k)) (sym goes)
-              ∙ ap (λ (k : ℕ). state (frame t 0 ∷ frame b k ∷ st) (enter a.walk t)) (sym (add-one j)))) e));
-        }
-
--- ---- what holds while the code walks
-module _ (first count to seen₀ done₀ : List ℕ) (n₀ : ℕ) (st₀ : List Frame) where
-  pub record Going (seen done : List ℕ) (n : ℕ) (st : List Frame) : Type 0 where
-    pub start : Started first count to st
-    pub seen_sized : length seen ≡ room
-    pub done_sized : length done ≡ blocks
-    pub along : (g : Graph) → ArmsOf first count to g → Stacked g st₀ → (w : Walk) → Shows w seen₀ done₀ n₀ → Along g (state st₀ w) st seen done n
-
-module _ {first count to seen₀ done₀ : List ℕ} {n₀ : ℕ} {st₀ : List Frame} where
-  pub going_start : Started first count to st₀ → length seen₀ ≡ room → length done₀ ≡ blocks → Going first count to seen₀ done₀ n₀ st₀ seen₀ done₀ n₀ st₀
-  going_start s a b = record { start = s; seen_sized = a; done_sized = b; along = λ g h st w q. record { walk = w; shows = q; stacked = st; onward = λ x e. e } }
-
-  -- when the stack is empty
-  pub going_end : (seen done : List ℕ) (n : ℕ) → Going first count to seen₀ done₀ n₀ st₀ seen done n [] → Walks first count to st₀ seen₀ done₀ n₀ seen done n
+  ends_more : (st : List Frame) (v : rules.Walk) (x : State) → Ends g (pop g st v) x → Ends g (state st v) x
   unfolding run
-  going_end seen done n h g has s w q = let a = h.along g has s w q in record { walk = a.walk; ends = a.onward (state [] a.walk) (0, refl); shows = a.shows }
+  ends_more st v x e = (suc e.0, e.1)
 
-  module _ {seen done : List ℕ} {n b j : ℕ} {st : List Frame} (h : Going first count to seen₀ done₀ n₀ st₀ seen done n (frame b j ∷ st)) where
-    pub top_within : get_or first b 0 + get_or count b 0 ≤ arms
-    top_within = h.start.has.within b h.start.stacked.0.0
-
-    pub top_next : j ≤ get_or count b 0
-    top_next = omega (arith, h.start.stacked.0.1, arms_length h.start.graph first count to h.start.has b h.start.stacked.0.0)
-
-    pub turn_end : get_or count b 0 ≤ j → n < blocks → Going first count to seen₀ done₀ n₀ st₀ seen (set done n b) (n + 1) st
-    turn_end e l = record {
-      start = record { graph = h.start.graph; has = h.start.has; stacked = h.start.stacked.1 };
-      seen_sized = h.seen_sized;
-      done_sized = length-set done n b ∙ h.done_sized;
-      along = λ g a s w q. let x = h.along g a s w q in along_end g first count to a b x.stacked.0.0 (state st₀ w) j st seen done n x e (omega (arith, l, h.done_sized));
+  module _ (s : State) (b j : ℕ) (st : List Frame) (w : Walk) (a : Along s (frame b j ∷ st) w) where
+    along_end : (done : Order) → length (todo g b) ≤ j → in_order done ≡ in_order w.done ++ b ∷ [] → done.len ≡ w.done.len + 1 → Along s st (record { seen = w.seen; done = done })
+    along_end done h e n = record {
+      walk = finish a.walk b;
+      shows = shows_finish b done a.shows e n;
+      onward = λ x q. a.onward x (ends_more (frame b j ∷ st) a.walk x (subst (λ (y : State). Ends g y x) (sym (pop_end g b j st a.walk h)) q));
     }
 
-    module _ (t : ℕ) (l : j < get_or count b 0) (is : t ≡ get_or (last_first to (get_or first b 0) (get_or count b 0)) j 0) where
-      in_graph : In t (numbers_of h.start.graph)
-      in_graph = subst (λ (k : ℕ). In k (numbers_of h.start.graph)) (sym is) (arm_in h.start.graph first count to h.start.has b h.start.stacked.0.0 j l)
+    module _ (t : ℕ) (h : j < length (todo g b)) (is : t ≡ get_or (todo g b) j 0) where
+      below : T (ltb j (length (todo g b)))
+      below = rw (lt-ltb j (length (todo g b)) h) tt
 
-      pub arm_low : t < blocks
-      arm_low = h.start.has.low t in_graph
-
-      up_stacked : Stacked h.start.graph (frame b (j + 1) ∷ st)
-      up_stacked = (
-        (h.start.stacked.0.0, omega (arith, l, arms_length h.start.graph first count to h.start.has b h.start.stacked.0.0)),
-        h.start.stacked.1,
-      )
-
-      pub turn_old : member seen t ≡ true → Going first count to seen₀ done₀ n₀ st₀ seen done n (frame b (j + 1) ∷ st)
-      turn_old m = record {
-        start = record { graph = h.start.graph; has = h.start.has; stacked = up_stacked };
-        seen_sized = h.seen_sized;
-        done_sized = h.done_sized;
-        along = λ g a s w q. let x = h.along g a s w q in along_old g first count to a b x.stacked.0.0 (state st₀ w) j st seen done n x t l is m;
+      along_old : member w.seen t ≡ true → Along s (frame b (j + 1) ∷ st) w
+      along_old m = record {
+        walk = a.walk;
+        shows = a.shows;
+        onward = λ x e. a.onward x
+            (ends_more (frame b j ∷ st) a.walk x
+            (subst (λ (y : State). Ends g y x)
+            (sym (pop_old g b j st a.walk below (rw (← is, ← a.shows.seen_is t, m) tt) ∙ ap (λ (k : ℕ). state (frame b k ∷ st) a.walk) (sym (add-one j)))) e));
       }
 
-      pub turn_new : (seen' : List ℕ) → length seen' ≡ room → member seen t ≡ false → ((m : ℕ) → member seen' m ≡ eqb m t || member seen m) → Going first count to seen₀ done₀ n₀ st₀ seen' done n (frame t 0 ∷ frame b (j + 1) ∷ st)
-      turn_new seen' z m v = record {
-        start = record { graph = h.start.graph; has = h.start.has; stacked = ((in_graph, omega arith), up_stacked) };
-        seen_sized = z;
-        done_sized = h.done_sized;
-        along = λ g a s w q. let x = h.along g a s w q in along_new g first count to a b x.stacked.0.0 (state st₀ w) j st seen done n x t l is seen' m v;
+      along_new : (seen : List ℕ) → member w.seen t ≡ false → ((m : ℕ) → member seen m ≡ eqb m t || member w.seen m) → Along s (frame t 0 ∷ frame b (j + 1) ∷ st) (record { seen = seen; done = w.done })
+      along_new seen m more = record {
+        walk = enter a.walk t;
+        shows = shows_enter t seen a.shows more;
+        onward = λ x e. a.onward x
+            (ends_more (frame b j ∷ st) a.walk x
+            (subst (λ (y : State). Ends g y x)
+            (sym (pop_new g b j st a.walk below (rw (← is, ← a.shows.seen_is t, m) tt)
+            ∙ ap (λ (k : ℕ). state (frame k 0 ∷ frame b (suc j) ∷ st) (enter a.walk k)) (sym is)
+            ∙ ap (λ (k : ℕ). state (frame t 0 ∷ frame b k ∷ st) (enter a.walk t)) (sym (add-one j)))) e));
       }
+
+-- ---- what holds while the code walks from block root, with w₀ before
+pub record Going (g : Graph) (root : ℕ) (w₀ : Walk) (st : List Frame) (w : Walk) : Type 0 where
+  pub stacked : Stacked g st
+  pub counted : Counted (length st) w
+  pub along : (v : rules.Walk) → Shows v w₀ → Along g (state (frame root 0 ∷ []) (enter v root)) st w
+
+module _ {g : Graph} {root : ℕ} {w₀ w : Walk} {before : List Frame} {b j : ℕ} {st : List Frame} (had : before ≡ frame b j ∷ st) (before_going : Going g root w₀ before w) where
+  h : Going g root w₀ (frame b j ∷ st) w
+  h = subst (λ (l : List Frame). Going g root w₀ l w) had before_going
+
+  pub top_in : In b (numbers_of g)
+  top_in = h.stacked.0.0
+
+  pub top_next : j ≤ length (todo g b)
+  top_next = h.stacked.0.1
+
+  pub top_counted : length st + 1 + w.done.len ≡ size w.seen
+  top_counted = omega (arith, h.counted)
+
+  pub turn_end : (done : Order) → length (todo g b) ≤ j → in_order done ≡ in_order w.done ++ b ∷ [] → done.len ≡ w.done.len + 1 → Going g root w₀ st (record { seen = w.seen; done = done })
+  turn_end done e is long = record {
+    stacked = h.stacked.1;
+    counted = omega (arith, h.counted, long);
+    along = λ v s. along_end g (state (frame root 0 ∷ []) (enter v root)) b j st w (h.along v s) done e is long;
+  }
+
+  module _ {t : ℕ} (lt : j < length (todo g b)) (is : t ≡ get_or (todo g b) j 0) where
+    pub turn_old : {up : List Frame} → up ≡ frame b (j + 1) ∷ st → member w.seen t ≡ true → Going g root w₀ up w
+    turn_old lifted m = rw lifted (record {
+      stacked = ((top_in, omega (arith, lt)), h.stacked.1);
+      counted = omega (arith, h.counted);
+      along = λ v s. along_old g (state (frame root 0 ∷ []) (enter v root)) b j st w (h.along v s) t lt is m;
+    })
+
+    pub turn_new : {up after : List Frame} → up ≡ frame b (j + 1) ∷ st → after ≡ frame t 0 ∷ up → (seen : List ℕ) → In t (numbers_of g) → t < blocks → member w.seen t ≡ false → ((m : ℕ) → member seen m ≡ eqb m t || member w.seen m) → Going g root w₀ after (record { seen = seen; done = w.done })
+    turn_new lifted entered seen i low m more = rw (entered, lifted) (record {
+      stacked = ((i, omega arith), ((top_in, omega (arith, lt)), h.stacked.1));
+      counted = omega (arith, h.counted, size_more w.seen seen t low m more);
+      along = λ v s. along_new g (state (frame root 0 ∷ []) (enter v root)) b j st w (h.along v s) t lt is seen m more;
+    })

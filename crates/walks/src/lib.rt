@@ -1,230 +1,157 @@
-// Depth-first walks over the tables, the last arm of a block first, on a stack of their own.
+// Depth-first walks over a graph, the last arm of a block first, on a stack of their own.
 #![tactic(auto)]
 
-ghost use Rattle.std.specs.Prelude.{◌≡◌, false, not, ◌++◌, ℕ, ◌+◌, ◌≤◌, ◌<◌, length, get_or, take};
-ghost use Rattle.limits.specs.Limits.{numbers, most_arms, blocks, arms};
-ghost use Rattle.rules.specs.Lists.{keep};
-ghost use Rattle.records.specs.Tables.{in_order};
-ghost use Rattle.marks.specs.Sets.{room, member, size};
-ghost use Rattle.stack.specs.Frames.{Roomy, frames};
-ghost use Rattle.walks.specs.Walking.{last_first, Counts, Started, Walks, Begins, Visits, Enters, Reaches, backwards, Roots, VisitsAll};
-ghost use Rattle.walks.specs.Lent.{Lent, LentMarked, Ordered, FinishedAll};
+ghost use Rattle.std.specs.Prelude.{◌≡◌, ℕ, ◌+◌, ◌≤◌, ◌<◌, ◌∷◌, [], ◌++◌, length, reverse};
+ghost use Rattle.limits.specs.Limits.{blocks};
+ghost use Rattle.rules.specs.Graph.{numbers_of};
+ghost use Rattle.rules.specs.PlainOrder as rules;
+ghost use Rattle.rules.proofs.Membership.{In};
+ghost use Rattle.rules.proofs.PlainVisit.{nothing};
+ghost use Rattle.rules.proofs.TwoWalks as kosaraju;
+ghost use Rattle.records.specs.Tables.{Sound, tabled, in_order};
+ghost use Rattle.walks.specs.Walking.{Fitting, Leads, Counted, Shows, Visits, entered, unmarked, all_visited};
 
-use limits::{ARMS, BLOCKS};
-use records::{Order, entry};
+use limits::BLOCKS;
+use marks::Set;
+use records::{Graph, Order};
+use stack::{Frame, Popped, Room, Stack};
 
-// Where the last of a block's n arms goes that is not started, when `next` are.
-fn leads_to<'a>(
-    first: &'a [u16; BLOCKS],
-    to: &'a [u16; ARMS],
-    block: u16,
-    n: usize,
-    next: u16,
-) -> u16
-    requires { (length first.now ≡ blocks) × (length to.now ≡ arms) × (get_or first.now block 0 + n ≤ arms) × (next < n) }
-    ensures { result ≡ get_or (last_first to.now (get_or first.now block 0) n) next 0 }
-{
-    let f = lists::entry_of(first, block);
-    to[f + (n - 1 - next as usize)]
+// What a walk has seen, and what it has finished, the last last.
+#[derive(Drop)]
+pub struct Walk {
+    pub seen: Set,
+    pub done: Order,
 }
 
-// The walk from a stack of n entries on, in storage that is lent, until it is empty: a removal for each arm and for each
+impl Walk {
+    pub fn new() -> Self
+        ensures { Counted 0 result × Shows nothing result }
+    {
+        Walk {
+            seen: marks::none(),
+            done: Order {
+                block: [0; BLOCKS],
+                len: 0,
+            },
+        }
+    }
+}
+
+fn push(o: &mut Order, block: u16)
+    requires { o.old.len < blocks }
+    ensures { (in_order o.new ≡ in_order o.old ++ block ∷ []) × (o.new.len ≡ o.old.len + 1) }
+{
+    o.block[o.len] = block;
+    o.len += 1;
+}
+
+// Where the last of a block's arms goes that is not started.
+fn leads_to(g: &Graph, f: Frame) -> Option<u16>
+    requires { Fitting g.now × In f.block (numbers_of (tabled g.now)) }
+    ensures { Leads (tabled g.now) f result }
+{
+    let n = g.a.count_of(f.block);
+    let next = f.arm as usize;
+    if n <= next {
+        return None;
+    }
+    let first = g.a.first_of(f.block);
+    Some(g.a.to[first + (n - 1 - next)])
+}
+
+// The walk from one block, which does nothing where that is marked: a removal from the stack for each arm and for each
 // block that is finished.
-fn walk<'a, 's>(
-    first: &'a [u16; BLOCKS],
-    count: &'a [u16; BLOCKS],
-    to: &'a [u16; ARMS],
-    waiting: &'s mut [u16; stack::ROOM],
-    started: &'s mut [u16; stack::ROOM],
-    n: usize,
-    seen: &mut [u8; marks::ROOM],
-    done: &mut [u16; BLOCKS],
-    finished: usize,
-) -> usize
-    requires started { Started first.now count.now to.now (frames waiting.old started.old n) }
-    requires seen_len { (length seen.old ≡ room) × (length done.old ≡ blocks) × (n + finished ≡ size seen.old) × Roomy waiting.old started.old }
-    ensures counts { Counts seen.new done.new result }
-    ensures walks { Walks first.now count.now to.now (frames waiting.old started.old n) seen.old done.old finished seen.new done.new result }
+pub fn visit(g: &Graph, root: u16, room: &mut Room, w: &mut Walk)
+    requires { Fitting g.now × In root (numbers_of (tabled g.now)) × Counted 0 w.old }
+    ensures { Counted 0 w.new × Visits (tabled g.now) root w.old w.new }
 {
-    let mut at = finished;
-    let mut len = n;
-    while 0 < len {
-        let p = stack::take(waiting, started, len);
-        let block = p.block;
-        let arm = p.arm;
-        let rest = p.len;
-        let k = lists::entry_of(count, block);
-        if k <= arm as usize {
-            done[at] = block;
-            at = at + 1;
-            len = rest;
+    if marks::is_marked(&w.seen, root) {
+        return;
+    }
+    marks::mark(&mut w.seen, root);
+    let mut stack = Stack::new(room).push(root, 0);
+    loop {
+        let Popped { stack: rest, top } = stack.pop();
+        let Some(f) = top else {
+            return;
+        };
+        let Some(t) = leads_to(g, f) else {
+            push(&mut w.done, f.block);
+            stack = rest;
+            continue;
+        };
+        stack = rest.push(f.block, f.arm + 1);
+        if marks::is_marked(&w.seen, t) {
             continue;
         }
-        let t = leads_to(first, to, block, k, arm);
-        if marks::is_marked(seen, t) {
-            len = stack::put(waiting, started, rest, block, arm + 1);
+        marks::mark(&mut w.seen, t);
+        stack = stack.push(t, 0);
+    }
+}
+
+// The walk from the entry, if there is one; nothing is walked before.
+fn reach(g: &Graph, w: &mut Walk)
+    requires { Fitting g.now × Counted 0 w.old × Shows nothing w.old }
+    ensures { Counted 0 w.new × Shows (entered (tabled g.now)) w.new }
+{
+    let Some(entry) = g.entry() else {
+        return;
+    };
+    let mut room = stack::EMPTY;
+    visit(g, entry, &mut room, w);
+}
+
+// The walk from each listed block in turn; nothing is walked before.
+fn visit_all(g: &Graph, w: &mut Walk)
+    requires { Fitting g.now × Counted 0 w.old × Shows nothing w.old }
+    ensures { Counted 0 w.new × Shows (all_visited (tabled g.now)) w.new }
+{
+    let mut room = stack::EMPTY;
+    for &n in &g.b.listed[..g.blocks] {
+        visit(g, n, &mut room, w);
+    }
+}
+
+// The last first.
+fn reverse(o: &mut Order)
+    requires { o.old.len ≤ blocks }
+    ensures { (in_order o.new ≡ reverse (in_order o.old)) × (o.new.len ≡ o.old.len) }
+{
+    o.block[..o.len].reverse();
+}
+
+// Behind an order the listed blocks that are not marked.
+fn unreached(g: &Graph, seen: &Set, o: &mut Order)
+    requires { (g.now.blocks ≤ blocks) × (o.old.len + length (unmarked g.now seen.now) ≤ blocks) }
+    ensures { (in_order o.new ≡ in_order o.old ++ unmarked g.now seen.now) × (o.new.len ≡ o.old.len + length (unmarked g.now seen.now)) }
+{
+    for &n in &g.b.listed[..g.blocks] {
+        if marks::is_marked(seen, n) {
             continue;
         }
-        marks::mark(seen, t);
-        let up = stack::put(waiting, started, rest, block, arm + 1);
-        len = stack::put(waiting, started, up, t, 0);
+        push(o, n);
     }
-    at
-}
-
-// The walk from one block, which does nothing where that is marked: what is entered is marked in `seen`, what is
-// finished stands behind the first `finished` of `done`. How many are finished then.
-pub fn visit<'a>(
-    first: &'a [u16; BLOCKS],
-    count: &'a [u16; BLOCKS],
-    to: &'a [u16; ARMS],
-    root: u16,
-    seen: &mut [u8; marks::ROOM],
-    done: &mut [u16; BLOCKS],
-    finished: usize,
-) -> usize
-    requires begins { Begins first.now count.now to.now root }
-    requires counts { Counts seen.old done.old finished }
-    ensures counts_2 { Counts seen.new done.new result }
-    ensures visits { Visits first.now count.now to.now root seen.old done.old finished seen.new done.new result }
-{
-    if marks::is_marked(seen, root) {
-        return finished;
-    }
-    marks::mark(seen, root);
-    let mut waiting: [u16; stack::ROOM] = [0; stack::ROOM];
-    let mut started: [u16; stack::ROOM] = [0; stack::ROOM];
-    let n = stack::put(&mut waiting, &mut started, 0, root, 0);
-    walk(
-        first,
-        count,
-        to,
-        &mut waiting,
-        &mut started,
-        n,
-        seen,
-        done,
-        finished,
-    )
-}
-
-// The walk from the entry, if there is one, with no block marked before.
-fn reach<'a>(
-    first: &'a [u16; BLOCKS],
-    count: &'a [u16; BLOCKS],
-    to: &'a [u16; ARMS],
-    from: usize,
-    seen: &mut [u8; marks::ROOM],
-    done: &mut [u16; BLOCKS],
-) -> usize
-    requires enters { Enters first.now count.now to.now from }
-    requires seen_len { (length seen.old ≡ room) × (length done.old ≡ blocks) × ((m : ℕ) → member seen.old m ≡ false) }
-    ensures counts { Counts seen.new done.new result }
-    ensures reaches { Reaches first.now count.now to.now from seen.new done.new result }
-{
-    if BLOCKS <= from {
-        return 0;
-    }
-    visit(first, count, to, from as u16, seen, done, 0)
-}
-
-// The first n finished blocks, the last first.
-fn reversed(done: &[u16; BLOCKS], n: usize) -> Order
-    requires { (n ≤ blocks) × (length done.now ≡ blocks) }
-    ensures { (in_order result ≡ backwards done.now n) × (result.len ≡ n) }
-{
-    let mut block: [u16; BLOCKS] = [0; BLOCKS];
-    let mut i: usize = 0;
-    while i < n {
-        block[i] = done[n - 1 - i];
-        i = i + 1;
-    }
-    Order { block, len: n }
-}
-
-// An order, and behind it the listed blocks that are not marked.
-fn unreached<'a>(
-    mut o: Order,
-    seen: &'a [u8; marks::ROOM],
-    listed: &'a [u16; BLOCKS],
-    n: usize,
-) -> Order
-    requires seen_len { (length seen.now ≡ room) × (length listed.now ≡ blocks) × (n ≤ blocks) }
-    requires listed_bound { o.len + length (keep (λ (m : ℕ). not (member seen.now m)) (take n listed.now)) ≤ blocks }
-    ensures result_value { in_order result ≡ in_order o ++ keep (λ (m : ℕ). not (member seen.now m)) (take n listed.now) }
-    ensures len_value { result.len ≡ o.len + length (keep (λ (m : ℕ). not (member seen.now m)) (take n listed.now)) }
-{
-    let mut i: usize = 0;
-    while i < n {
-        let k = listed[i];
-        i = i + 1;
-        if marks::is_marked(seen, k) {
-            continue;
-        }
-        let at = o.len;
-        o.block[at] = k;
-        o.len = at + 1;
-    }
-    o
 }
 
 // Depth-first from the entry, last arm first, in reverse finishing order; then the unreached blocks as listed.
-pub fn order<'a>(
-    listed: &'a [u16; BLOCKS],
-    marks: &'a [u8; BLOCKS],
-    first: &'a [u16; BLOCKS],
-    count: &'a [u16; BLOCKS],
-    to: &'a [u16; ARMS],
-    n: usize,
-) -> Order
-    requires { LentMarked numbers most_arms listed.now marks.now first.now count.now to.now n }
-    ensures { Ordered listed.now marks.now first.now count.now to.now n result }
+pub fn order(g: &Graph) -> Order
+    requires { Sound g.now }
+    ensures { (in_order result ≡ rules.order (tabled g.now)) × (result.len ≡ g.now.blocks) }
 {
-    let mut seen = marks::none();
-    let mut done: [u16; BLOCKS] = [0; BLOCKS];
-    let from = entry::find(listed, marks, n);
-    let at = reach(first, count, to, from, &mut seen, &mut done);
-    let o = reversed(&done, at);
-    unreached(o, &seen, listed, n)
-}
-
-// The walk from each of n listed blocks in turn, with no block marked before.
-fn visit_all<'a>(
-    first: &'a [u16; BLOCKS],
-    count: &'a [u16; BLOCKS],
-    to: &'a [u16; ARMS],
-    listed: &'a [u16; BLOCKS],
-    n: usize,
-    seen: &mut [u8; marks::ROOM],
-    done: &mut [u16; BLOCKS],
-) -> usize
-    requires n_le_blocks { (n ≤ blocks) × (length listed.now ≡ blocks) × Roots first.now count.now to.now listed.now n }
-    requires seen_len { (length seen.old ≡ room) × (length done.old ≡ blocks) × ((m : ℕ) → member seen.old m ≡ false) }
-    ensures counts { Counts seen.new done.new result }
-    ensures visits_all { VisitsAll first.now count.now to.now listed.now n seen.new done.new result }
-{
-    let mut at: usize = 0;
-    let mut i: usize = 0;
-    while i < n {
-        at = visit(first, count, to, listed[i], seen, done, at);
-        i = i + 1;
-    }
-    at
+    let mut w = Walk::new();
+    reach(g, &mut w);
+    reverse(&mut w.done);
+    unreached(g, &w.seen, &mut w.done);
+    w.done
 }
 
 // The first walk of `cycles`: from each listed block in turn, what is finished, the last first.
-pub fn finished<'a>(
-    listed: &'a [u16; BLOCKS],
-    first: &'a [u16; BLOCKS],
-    count: &'a [u16; BLOCKS],
-    to: &'a [u16; ARMS],
-    n: usize,
-) -> Order
-    requires { Lent blocks arms listed.now first.now count.now to.now n }
-    ensures { FinishedAll listed.now first.now count.now to.now n result }
+pub fn finished(g: &Graph) -> Order
+    requires { Fitting g.now }
+    ensures { (in_order result ≡ kosaraju.finished (tabled g.now)) × (result.len ≡ g.now.blocks) }
 {
-    let mut seen = marks::none();
-    let mut done: [u16; BLOCKS] = [0; BLOCKS];
-    let at = visit_all(first, count, to, listed, n, &mut seen, &mut done);
-    reversed(&done, at)
+    let mut w = Walk::new();
+    visit_all(g, &mut w);
+    reverse(&mut w.done);
+    w.done
 }

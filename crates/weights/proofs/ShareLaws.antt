@@ -5,6 +5,7 @@ use native.Mathlib.Omega.{arith}
 use mathlib.Core.Path.{◌≡◌, refl, ap, sym, ◌∙◌}
 use mathlib.Core.Bool.{Bool, true, false}
 use lib.Dec.{T, leb, eqb, ltb, leb→le, le→leb, ltb→lt, lt→ltb, eqb-suc-zero, leb-suc-zero}
+use Rattle.lists.proofs.Choices.{same_test}
 use Rattle.rules.specs.Weights.{scale, largest, share, floor, over_four_fifths}
 
 parts : (x k : ℕ) → x * k ≡ x / scale * k * scale + x % scale * k
@@ -13,18 +14,11 @@ parts x k =
     ∙ add-mul (x / scale * scale) (x % scale) k
     ∙ ap (λ (y : ℕ). y + x % scale * k) (mul_right_comm (x / scale) scale k)
 
--- ---- two tests that imply each other are one
-T-same : (a b : Bool) → (T a → T b) → (T b → T a) → a ≡ b
-T-same true true f g = refl
-T-same true false f g = absurd (f tt)
-T-same false true f g = absurd (g tt)
-T-same false false f g = refl
-
 leb_same : (a b c d : ℕ) → (a ≤ b → c ≤ d) → (c ≤ d → a ≤ b) → leb a b ≡ leb c d
-leb_same a b c d f g = T-same (leb a b) (leb c d) (λ t. le→leb c d (f (leb→le a b t))) (λ t. le→leb a b (g (leb→le c d t)))
+leb_same a b c d f g = same_test (leb a b) (leb c d) (λ t. le→leb c d (f (leb→le a b t))) (λ t. le→leb a b (g (leb→le c d t)))
 
 ltb_same : (a b c d : ℕ) → (a < b → c < d) → (c < d → a < b) → ltb a b ≡ ltb c d
-ltb_same a b c d f g = T-same (ltb a b) (ltb c d) (λ t. lt→ltb c d (f (ltb→lt a b t))) (λ t. lt→ltb a b (g (ltb→lt c d t)))
+ltb_same a b c d f g = same_test (ltb a b) (ltb c d) (λ t. lt→ltb c d (f (ltb→lt a b t))) (λ t. lt→ltb a b (g (ltb→lt c d t)))
 
 -- ---- four fifths
 pub fifths_are : (a t : ℕ) → ltb (4 * (t / 5) + 4 * (t % 5) / 5) a ≡ over_four_fifths a t

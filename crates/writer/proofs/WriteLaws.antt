@@ -3,21 +3,21 @@ use Prim.Native.Nat.{ℕ, zero, suc, ◌+◌, ◌-◌, ◌*◌, ◌≤◌, ◌<�
 use native.Mathlib.Nat.{add-zero, add-suc}
 use native.Mathlib.Numerals.{add-one}
 use native.Mathlib.Omega.{arith}
-use mathlib.Core.Path.{◌≡◌, refl, sym, ap, ap₂, subst, ◌∙◌}
+use mathlib.Core.Path.{◌≡◌, refl, sym, ap, subst, ◌∙◌}
 use mathlib.Core.List.{List, [], ◌∷◌, ◌++◌, append_assoc, append-nil}
 use lib.ListN.{length, get_or, take, drop, length-append, take-append-drop}
 use lib.Seq.{length-take-le}
 use Rattle.limits.specs.Limits.{size}
 use Rattle.lists.specs.Behind.{behind}
 use Rattle.lists.proofs.Parts.{fill_more, behind_front}
-use Rattle.rules.specs.Graph as graph
-use Rattle.rules.specs.Graph.{Graph}
 use Rattle.rules.specs.Records.{fields, block_bytes, arm_bytes, blocks_bytes, leaving_bytes, arms_bytes, written}
 use Rattle.rules.proofs.Grouped.{blocks_append, leaving_append, arms_append}
 use Rattle.records.specs.declared.Blocks.{Blocks}
 use Rattle.records.specs.declared.Arms.{Arms}
-use Rattle.records.specs.Tables.{arm_at, arms_from, only_blocks, only_listed, only_arms, leaves, block_at, up_to, no_arms}
+use Rattle.records.specs.declared.Graph.{Graph}
+use Rattle.records.specs.Tables.{arm_at, arms_from, leaves, block_at, up_to, tabled}
 use Rattle.records.proofs.TableLaws.{arms_more}
+use Rattle.writer.specs.Files.{Writable}
 
 -- ---- blocks
 module _ (b : Blocks) (a : Arms) where
@@ -40,15 +40,6 @@ module _ (b : Blocks) (a : Arms) where
       fill_more (blocks_bytes (up_to b a i)) ys d o (size * i) size (blocks_length i) e
       ∙ ap (λ (n : ℕ). (blocks_bytes (up_to b a i) ++ ys) ++ drop n d) k
       ∙ ap (λ (l : List ℕ). l ++ drop (size * (i + 1)) d) m
-
-  -- blocks have their bytes whatever their arms
-  pub blocks_alone : (c : Arms) (i : ℕ) → blocks_bytes (up_to b a i) ≡ blocks_bytes (up_to b c i)
-  unfolding up_to blocks_bytes block_at block_bytes
-  blocks_alone c zero = refl
-  blocks_alone c (suc i) =
-      blocks_append (up_to b a i) (block_at b a (get_or b.listed i 0) ∷ [])
-      ∙ ap (λ (l : List ℕ). l ++ blocks_bytes (block_at b a (get_or b.listed i 0) ∷ [])) (blocks_alone c i)
-      ∙ sym (blocks_append (up_to b c i) (block_at b c (get_or b.listed i 0) ∷ []))
 
 -- ---- the arms of one block
 module _ (a : Arms) (from first : ℕ) where
@@ -74,11 +65,6 @@ module _ (a : Arms) (from first : ℕ) where
       ∙ ap (λ (l : List ℕ). l ++ drop (size * (j + 1)) d) m
 
 -- ---- the arms of all blocks
-only_arms_lem : (a : Arms) (c f : ℕ) → arms_from (only_arms a.to a.args a.weight) f c ≡ arms_from a f c
-unfolding arms_from arm_at
-only_arms_lem a zero f = refl
-only_arms_lem a (suc c) f = ap (λ (l : List graph.Arm). arm_at a f ∷ l) (only_arms_lem a c (suc f))
-
 module _ (b : Blocks) (a : Arms) where
   arms_next : (i : ℕ) → arms_bytes (up_to b a (suc i)) ≡ arms_bytes (up_to b a i) ++ leaving_bytes (get_or b.listed i 0) (leaves a (get_or b.listed i 0))
   unfolding up_to arms_bytes block_at
@@ -94,10 +80,6 @@ module _ (b : Blocks) (a : Arms) where
   unfolding arms_long up_to arms_bytes
   arms_none = refl
 
-  pub arms_all : (i : ℕ) → length (arms_bytes (up_to b a i)) ≡ arms_long i
-  unfolding arms_long
-  arms_all i = refl
-
   pub arms_step : (i : ℕ) → arms_long (suc i) ≡ arms_long i + size * get_or a.count (get_or b.listed i 0) 0
   unfolding arms_long leaves
   arms_step i =
@@ -108,7 +90,7 @@ module _ (b : Blocks) (a : Arms) where
   arms_most i zero = rw add-zero (omega arith)
   arms_most i (suc k) = rw add-suc (omega (arith, arms_most i k, arms_step (i + k)))
 
-  pub arms_room : (i n : ℕ) → i < n → arms_long i + size * get_or a.count (get_or b.listed i 0) 0 ≤ arms_long n
+  arms_room : (i n : ℕ) → i < n → arms_long i + size * get_or a.count (get_or b.listed i 0) 0 ≤ arms_long n
   arms_room i n l =
       let e : suc i + (n - suc i) ≡ n = omega (arith, l) in
       subst (λ (m : ℕ). arms_long i + size * get_or a.count (get_or b.listed i 0) 0 ≤ arms_long m) e
@@ -131,43 +113,32 @@ module _ (b : Blocks) (a : Arms) where
   front_all d k n = refl
 
   pub arms_turn : (d o ys : List ℕ) (k i at count : ℕ) → k ≤ length d → at ≡ k + arms_long i → o ≡ arms_front d k i ++ drop at d
-      → count ≡ get_or a.count (get_or b.listed i 0) 0
-      → ys ≡ leaving_bytes (get_or b.listed i 0) (arms_from (only_arms a.to a.args a.weight) (get_or a.first (get_or b.listed i 0) 0) count)
+      → ys ≡ leaving_bytes (get_or b.listed i 0) (leaves a (get_or b.listed i 0))
       → take at o ++ (ys ++ drop (at + size * count - at) (drop at o)) ≡ arms_front d k (i + 1) ++ drop (at + size * count) d
-  unfolding arms_front leaves
-  arms_turn d o ys k i at count h z e c y =
-      let m = get_or b.listed i 0 in
-      let f = get_or a.first m 0 in
+  unfolding arms_front
+  arms_turn d o ys k i at count h z e y =
       let q : arms_bytes (up_to b a i) ++ ys ≡ arms_bytes (up_to b a (i + 1)) =
-      ap (λ (l : List ℕ). arms_bytes (up_to b a i) ++ l) (y ∙ ap (leaving_bytes m) (only_arms_lem a count f) ∙ ap (λ (n : ℕ). leaving_bytes m (arms_from a f n)) c)
+      ap (λ (l : List ℕ). arms_bytes (up_to b a i) ++ l) y
       ∙ sym (arms_next i) ∙ ap (λ (n : ℕ). arms_bytes (up_to b a n)) (sym (add-one i)) in
       fill_more (take k d ++ arms_bytes (up_to b a i)) ys d o at (size * count) (front_length d k i h ∙ sym z) e
       ∙ ap (λ (l : List ℕ). l ++ drop (at + size * count) d) (append_assoc (take k d) (arms_bytes (up_to b a i)) ys ∙ ap (λ (l : List ℕ). take k d ++ l) q)
 
 -- ---- blocks and arms
-pub only_blocks_lem : (b : Blocks) (a : Arms) (i : ℕ) → up_to (only_blocks b.listed b.marks b.ends b.weight) a i ≡ up_to b a i
-unfolding up_to block_at
-only_blocks_lem b a zero = refl
-only_blocks_lem b a (suc i) = ap (λ (g : Graph). g ++ (block_at b a (get_or b.listed i 0) ∷ [])) (only_blocks_lem b a i)
+module _ (b : Blocks) (a : Arms) (n : ℕ) where
+  pub both_parts : (d o : List ℕ) → o ≡ blocks_bytes (up_to b a n) ++ drop (size * n) d
+      → behind (size * n) (arms_bytes (up_to b a n)) o ≡ written (up_to b a n) ++ drop (length (written (up_to b a n))) d
+  unfolding written
+  both_parts d o e =
+      ap (behind (size * n) (arms_bytes (up_to b a n))) e
+      ∙ behind_front (blocks_bytes (up_to b a n)) (arms_bytes (up_to b a n)) d (size * n) (blocks_length b a n)
 
-pub only_listed_lem : (b : Blocks) (a : Arms) (i : ℕ) → arms_bytes (up_to (only_listed b.listed) a i) ≡ arms_bytes (up_to b a i)
-unfolding up_to arms_bytes
-only_listed_lem b a zero = refl
-only_listed_lem b a (suc i) =
-    arms_next (only_listed b.listed) a i
-    ∙ ap (λ (l : List ℕ). l ++ leaving_bytes (get_or b.listed i 0) (leaves a (get_or b.listed i 0))) (only_listed_lem b a i)
-    ∙ sym (arms_next b a i)
+  pub written_parts : length (written (up_to b a n)) ≡ size * n + arms_long b a n
+  unfolding written arms_long
+  written_parts = rw length-append (ap (λ (m : ℕ). m + length (arms_bytes (up_to b a n))) (blocks_length b a n))
 
-pub both_parts : (b : Blocks) (a : Arms) (n : ℕ) (d o : List ℕ)
-    → o ≡ blocks_bytes (up_to (only_blocks b.listed b.marks b.ends b.weight) no_arms n) ++ drop (size * n) d
-    → behind (size * n) (arms_bytes (up_to (only_listed b.listed) a n)) o ≡ written (up_to b a n) ++ drop (length (written (up_to b a n))) d
-unfolding written
-both_parts b a n d o e =
-    ap₂ (behind (size * n)) (only_listed_lem b a n)
-    (e ∙ ap (λ (l : List ℕ). l ++ drop (size * n) d) (ap blocks_bytes (only_blocks_lem b no_arms n) ∙ blocks_alone b no_arms a n))
-    ∙ behind_front (blocks_bytes (up_to b a n)) (arms_bytes (up_to b a n)) d (size * n) (blocks_length b a n)
-
-pub written_parts : (b : Blocks) (a : Arms) (n : ℕ) → length (written (up_to b a n)) ≡ size * n + length (arms_bytes (up_to (only_listed b.listed) a n))
-unfolding written
-written_parts b a n =
-    rw (length-append, only_listed_lem b a n) (ap (λ (m : ℕ). m + length (arms_bytes (up_to b a n))) (blocks_length b a n))
+-- the arms of one block more have room
+pub next_room : (g : Graph) (room i at : ℕ) → Writable g room → i < g.blocks → at ≡ size * g.blocks + arms_long g.b g.a i
+    → at + size * get_or g.a.count (get_or g.b.listed i 0) 0 ≤ room
+unfolding tabled
+next_room g room i at w l e =
+    omega (arith, e, arms_room g.b g.a i g.blocks l, written_parts g.b g.a g.blocks, w.room_is)

@@ -1,124 +1,65 @@
 // A graph written as records: its blocks as listed, then the arms of each in that order.
 #![tactic(auto)]
 
-ghost use Rattle.std.specs.Prelude.{◌≡◌, ◌+◌, ◌*◌, ◌≤◌, ◌++◌, length, drop};
-ghost use Rattle.limits.specs.Limits.{size, blocks, arms};
+ghost use Rattle.std.specs.Prelude.{◌≡◌, ◌+◌, ◌*◌, ◌≤◌, ◌++◌, get_or, length, drop};
+ghost use Rattle.limits.specs.Limits.{size, arms};
 ghost use Rattle.lists.specs.Behind.{behind};
 ghost use Rattle.rules.specs.Records.{blocks_bytes, leaving_bytes, arms_bytes, written};
-ghost use Rattle.records.specs.Tables.{arms_from, only_blocks, only_listed, only_arms, arm_tables, up_to, no_arms, ArmsWithin};
+ghost use Rattle.records.specs.Tables.{leaves, tabled};
 ghost use Rattle.writer.specs.Files.{Writable};
 
-use limits::{ARMS, BLOCKS, RECORD};
-use records::fields;
+use limits::RECORD;
+use records::{Arms, Graph, fields};
 
-// The records of the first n listed blocks.
-fn put_blocks<'a>(
-    listed: &'a [u16; BLOCKS],
-    marks: &'a [u8; BLOCKS],
-    ends: &'a [u8; BLOCKS],
-    weight: &'a [u64; BLOCKS],
-    n: usize,
-    out: &mut [u8],
-)
-    requires n_le_blocks { (n ≤ blocks) × (length marks.now ≡ blocks) × (length ends.now ≡ blocks) × (length weight.now ≡ blocks) }
-    requires n_in_bounds { size * n ≤ length out.old }
-    ensures { out.new ≡ blocks_bytes (up_to (only_blocks listed.now marks.now ends.now weight.now) no_arms n) ++ drop (size * n) out.old }
+// The records of the blocks.
+fn put_blocks(g: &Graph, out: &mut [u8])
+    requires { Writable g.now (length out.old) }
+    ensures { out.new ≡ blocks_bytes (tabled g.now) ++ drop (size * g.now.blocks) out.old }
 {
-    let mut i: usize = 0;
-    while i < n {
-        let k = listed[i];
-        let at = RECORD * i;
-        fields::encode(
-            &mut out[at..at + RECORD],
-            1,
-            (k % 256) as u8,
-            lists::byte_of(marks, k),
-            lists::byte_of(ends, k),
-            0,
-            0,
-            lists::weight_of(weight, k),
-        );
-        i = i + 1;
+    for place in 0..g.blocks {
+        let n = g.b.listed[place];
+        let number = (n % 256) as u8;
+        let head = [1, number, g.b.marks_of(n), g.b.end_of(n), 0, 0, 0, 0];
+        let at = RECORD * place;
+        fields::encode(&mut out[at..at + RECORD], head, g.b.weight_of(n));
     }
 }
 
-// The records of `count` arms from arm `first` on, which leave block `from`.
-fn put_leaving<'a>(
-    to: &'a [u16; ARMS],
-    args: &'a [u8; ARMS],
-    weight: &'a [u64; ARMS],
-    from: u16,
-    first: usize,
-    count: usize,
-    out: &mut [u8],
-)
-    requires { (first + count ≤ arms) × (length out.old ≡ size * count) }
-    ensures { out.new ≡ leaving_bytes from (arms_from (only_arms to.now args.now weight.now) first count) }
+// The records of the arms that leave block n.
+fn put_leaving(a: &Arms, n: u16, out: &mut [u8])
+    requires { (get_or a.now.first n 0 + get_or a.now.count n 0 ≤ arms) × (length out.old ≡ size * get_or a.now.count n 0) }
+    ensures { out.new ≡ leaving_bytes n (leaves a.now n) }
 {
-    let mut j: usize = 0;
-    while j < count {
+    let from = (n % 256) as u8;
+    let first = a.first_of(n);
+    for j in 0..a.count_of(n) {
         let q = first + j;
+        let to = (a.to[q] % 256) as u8;
+        let head = [2, from, to, a.args[q], 0, 0, 0, 0];
         let at = RECORD * j;
-        fields::encode(
-            &mut out[at..at + RECORD],
-            2,
-            (from % 256) as u8,
-            (to[q] % 256) as u8,
-            args[q],
-            0,
-            0,
-            weight[q],
-        );
-        j = j + 1;
+        fields::encode(&mut out[at..at + RECORD], head, a.weight[q]);
     }
 }
 
-// The records of the arms of the first n listed blocks, behind n records.
-pub fn put_arms<'a>(
-    listed: &'a [u16; BLOCKS],
-    first: &'a [u16; BLOCKS],
-    count: &'a [u16; BLOCKS],
-    to: &'a [u16; ARMS],
-    args: &'a [u8; ARMS],
-    weight: &'a [u64; ARMS],
-    n: usize,
-    out: &mut [u8],
-)
-    requires n_le_blocks { (n ≤ blocks) × (length first.now ≡ blocks) × (length count.now ≡ blocks) }
-    requires arms_within { ArmsWithin (arm_tables first.now count.now to.now args.now weight.now) arms }
-    requires n_in_bounds { size * n + length (arms_bytes (up_to (only_listed listed.now) (arm_tables first.now count.now to.now args.now weight.now) n)) ≤ length out.old }
-    ensures { out.new ≡ behind (size * n) (arms_bytes (up_to (only_listed listed.now) (arm_tables first.now count.now to.now args.now weight.now) n)) out.old }
+// The records of the arms, behind those of the blocks.
+pub fn put_arms(g: &Graph, out: &mut [u8])
+    requires { Writable g.now (length out.old) }
+    ensures { out.new ≡ behind (size * g.now.blocks) (arms_bytes (tabled g.now)) out.old }
 {
-    let mut at: usize = RECORD * n;
-    let mut i: usize = 0;
-    while i < n {
-        let k = listed[i];
-        let f = lists::entry_of(first, k);
-        let c = lists::entry_of(count, k);
-        let next = at + RECORD * c;
-        put_leaving(to, args, weight, k, f, c, &mut out[at..next]);
+    let mut at = RECORD * g.blocks;
+    for i in 0..g.blocks {
+        let n = g.b.listed[i];
+        let next = at + RECORD * g.a.count_of(n);
+        put_leaving(&g.a, n, &mut out[at..next]);
         at = next;
-        i = i + 1;
     }
 }
 
-// The file of the first n listed blocks and their arms, at the front of the room; the rest stays.
-pub fn write<'a>(
-    listed: &'a [u16; BLOCKS],
-    marks: &'a [u8; BLOCKS],
-    ends: &'a [u8; BLOCKS],
-    weight: &'a [u64; BLOCKS],
-    first: &'a [u16; BLOCKS],
-    count: &'a [u16; BLOCKS],
-    to: &'a [u16; ARMS],
-    args: &'a [u8; ARMS],
-    heft: &'a [u64; ARMS],
-    n: usize,
-    out: &mut [u8],
-)
-    requires { Writable (only_blocks listed.now marks.now ends.now weight.now) (arm_tables first.now count.now to.now args.now heft.now) n (length out.old) }
-    ensures { out.new ≡ written (up_to (only_blocks listed.now marks.now ends.now weight.now) (arm_tables first.now count.now to.now args.now heft.now) n) ++ drop (length (written (up_to (only_blocks listed.now marks.now ends.now weight.now) (arm_tables first.now count.now to.now args.now heft.now) n))) out.old }
+// The graph's file, at the front of the room; the rest stays.
+pub fn write(g: &Graph, out: &mut [u8])
+    requires { Writable g.now (length out.old) }
+    ensures { out.new ≡ written (tabled g.now) ++ drop (length (written (tabled g.now))) out.old }
 {
-    put_blocks(listed, marks, ends, weight, n, out);
-    put_arms(listed, first, count, to, args, heft, n, out);
+    put_blocks(g, out);
+    put_arms(g, out);
 }

@@ -1,18 +1,28 @@
--- `cold::cool` meets its contract: both tables are a fresh count when the sweeps start.
-use Rattle.cold.proofs.WayLaws.{zeros}
+-- `cold::cool` meets its contract: every sweep but the last makes a block cold.
+use Rattle.std.proofs.Common.{refl}
+use Rattle.cold.specs.Sweeps.Cools.{still}
+use Rattle.cold.proofs.SweepLaws.{cool_sweeps, cool_less, cool_more, cool_last}
+use Rattle.cold.proofs.LinkLaws.{linked}
 use Rattle.cold.proofs.cool.Goals as goal
 
-pub count_ins-requires : goal.count_ins-requires
-count_ins-requires c = record { linked = c.requires.0; counts = zeros }
+pub count-ways-requires : goal.count-ways-requires
+count-ways-requires c = linked c.args.g.now c.requires.stands c.requires.whole
 
-pub count_cold-requires : goal.count_cold-requires
-count_cold-requires c = record { linked = c.requires; counts = zeros }
+pub loop-ways-init : goal.loop-ways-init
+loop-ways-init c = (0, record { same = refl; cools = still; sized = c.requires.stands.blocks_sized.marks; counts = c.count-ways.ensures })
 
-pub settle-requires : goal.settle-requires
-settle-requires c =
-    record {
-      linked = c.requires.0;
-      marks = c.requires.1;
-      arms = c.count_ins.ensures;
-      cold = c.count_cold.ensures;
-    }
+pub sweep-requires : goal.sweep-requires
+sweep-requires c =
+    cool_sweeps _ _ _ (linked c.args.g.now c.requires.stands c.requires.whole) _ _ c.loop-ways.invariant.1
+
+pub loop-ways-smaller : goal.loop-ways-smaller
+loop-ways-smaller c =
+    cool_less _ _ _ (linked c.args.g.now c.requires.stands c.requires.whole) _ _ c.loop-ways.invariant.1 _ _ _ c.sweep.ensures c.loop-ways-test.true
+
+pub loop-ways-preserved : goal.loop-ways-preserved
+loop-ways-preserved c =
+    cool_more _ _ _ (linked c.args.g.now c.requires.stands c.requires.whole) _ _ c.loop-ways.invariant.1 _ _ _ c.sweep.ensures
+
+pub returns : goal.returns
+returns c =
+    cool_last _ _ _ (linked c.args.g.now c.requires.stands c.requires.whole) _ _ c.loop-ways.invariant.1 _ _ _ c.sweep.ensures c.loop-ways-test.false

@@ -1,68 +1,41 @@
--- `cold::gather` meets its contract: while it runs, those of the first i are gathered.
-use Prim.Native.Nat.{ℕ, ◌<◌, ◌/◌, ◌%◌}
-use native.Mathlib.Omega.{arith}
-use mathlib.Core.Path.{◌≡◌, sym, ap, ◌∙◌, subst}
-use lib.ListN.{length, take}
-use Rattle.cold.specs.Sides.{Gathered}
+-- `cold::gather` meets its contract: while it runs, those of the first blocks of the order are gathered.
+use Rattle.std.proofs.Common.{rules, arith, take, take_all, List, ℕ, subst}
+use Rattle.records.specs.Tables.{in_order}
+use Rattle.cold.specs.Sides.{Gathered, on_side}
 use Rattle.cold.proofs.SideLaws.{gather_start, gather_room, gather_yes, gather_no}
-use borrow.Author.Rules.{rules}
 use Rattle.cold.proofs.gather.Goals as goal
-use Rattle.cold.proofs.gather.Goals.{then-side_of-side, else-side_of-side}
+use Rattle.cold.proofs.gather.Goals.{then-is_cold-cold, else-is_cold-cold}
 
-pub loop-i-init : goal.loop-i-init
-loop-i-init c =
-    let x = c.args in
-    (search rules, gather_start x.marks.now x.side x.block.now x.at x.out.now)
+pub loop-k-init : goal.loop-k-init
+loop-k-init c = gather_start c.args.b.now.marks c.args.cold (take c.args.o.now.len c.args.o.now.block) c.args.out.now
 
-pub byte_of-requires : goal.byte_of-requires
-byte_of-requires c = c.requires.len_le_blocks.2
+pub offset_bounds-out-out : goal.offset_bounds-out-out
+unfolding in_order
+offset_bounds-out-out c =
+    omega (arith, gather_room _ _ _ _ _ _ c.loop-k-test.true c.loop-k.invariant _ _ c.marks_of.ensures c.is_cold.ensures _ c.if-is_cold-cold.true c.requires.block_bound)
 
-pub offset_bounds-out-to : goal.offset_bounds-out-to
-offset_bounds-out-to c =
-    let l = c.loop-i in
-    let x = c.args in
-    omega (
-      arith,
-      gather_room x.marks.now x.side x.block.now x.at x.out.now l.i l.to l.out (omega arith) l.invariant.1 x.len _ (omega arith)
-          (sym (c.side_of.ensures ∙ ap (λ (m : ℕ). m / 2 % 2) c.byte_of.ensures) ∙ c.if-side_of-side.true) c.requires.block_bound,
-    )
+pub bounds-out-out : goal.bounds-out-out
+unfolding in_order
+bounds-out-out c = gather_room _ _ _ _ _ _ c.loop-k-test.true c.loop-k.invariant _ _ c.marks_of.ensures c.is_cold.ensures _ c.if-is_cold-cold.true c.requires.block_bound
 
-pub bounds-out-to : goal.bounds-out-to
-bounds-out-to c =
-    let l = c.loop-i in
-    let x = c.args in
-    gather_room x.marks.now x.side x.block.now x.at x.out.now l.i l.to l.out (omega arith) l.invariant.1 x.len _ (omega arith)
-    (sym (c.side_of.ensures ∙ ap (λ (m : ℕ). m / 2 % 2) c.byte_of.ensures) ∙ c.if-side_of-side.true) c.requires.block_bound
+pub overflow_add-out : goal.overflow_add-out
+unfolding in_order
+overflow_add-out c =
+    omega (arith, gather_room _ _ _ _ _ _ c.loop-k-test.true c.loop-k.invariant _ _ c.marks_of.ensures c.is_cold.ensures _ c.if-is_cold-cold.true c.requires.block_bound)
 
-pub overflow_add-to : goal.overflow_add-to
-overflow_add-to c =
-    let l = c.loop-i in
-    let x = c.args in
-    omega (
-      arith,
-      gather_room x.marks.now x.side x.block.now x.at x.out.now l.i l.to l.out (omega arith) l.invariant.1 x.len _ (omega arith)
-          (sym (c.side_of.ensures ∙ ap (λ (m : ℕ). m / 2 % 2) c.byte_of.ensures) ∙ c.if-side_of-side.true) c.requires.block_bound,
-    )
-
-pub loop-i-preserved : goal.loop-i-preserved
-loop-i-preserved c =
-    let l = c.loop-i in
-    let x = c.args in
-    let p = c.requires in
-    let e = c.side_of.ensures ∙ ap (λ (m : ℕ). m / 2 % 2) c.byte_of.ensures in
-    let inside : l.i < length x.block.now = omega arith in (
-      search rules,
-      elim c.if-side_of-side.branch [
-        | then-side_of-side w ↦
-            (let room = gather_room x.marks.now x.side x.block.now x.at x.out.now l.i l.to l.out inside l.invariant.1 x.len _ (omega arith) (sym e ∙ w.if-side_of-side.true) p.block_bound in
-            rw (w.to-is, w.out-is) (gather_yes x.marks.now x.side x.block.now x.at x.out.now l.i l.to l.out inside l.invariant.1 (sym e ∙ w.if-side_of-side.true) (omega (arith, room, l.invariant.1.sized))))
-        | else-side_of-side w ↦ rw (w.to-is, w.out-is) (gather_no x.marks.now x.side x.block.now x.at x.out.now l.i l.to l.out inside l.invariant.1 (λ q. w.if-side_of-side.false (e ∙ q)))
-      ],
-    )
+pub loop-k-preserved : goal.loop-k-preserved
+unfolding in_order
+loop-k-preserved c =
+    let l = c.loop-k in
+    elim c.if-is_cold-cold.branch [
+      | then-is_cold-cold w ↦
+          (let room = gather_room _ _ _ _ _ _ c.loop-k-test.true l.invariant _ _ c.marks_of.ensures c.is_cold.ensures _ w.if-is_cold-cold.true c.requires.block_bound in
+          rw w.out-is (gather_yes _ _ _ _ _ _ c.loop-k-test.true l.invariant _ _ c.marks_of.ensures c.is_cold.ensures w.if-is_cold-cold.true (search rules)))
+      | else-is_cold-cold w ↦ rw w.out-is (gather_no _ _ _ _ _ _ c.loop-k-test.true l.invariant _ _ c.marks_of.ensures c.is_cold.ensures w.if-is_cold-cold.false)
+    ]
 
 pub returns : goal.returns
+unfolding in_order
 returns c =
-    let l = c.loop-i in
     let x = c.args in
-    let e : l.i ≡ x.len = omega (arith, l.invariant.0) in
-    subst (λ (i : ℕ). Gathered x.marks.now (take i x.block.now) x.side x.at x.out.now l.out l.to) e l.invariant.1
+    subst (λ (s : List ℕ). Gathered (on_side x.b.now.marks x.cold s) x.out.now c.loop-k.out) (take_all c.loop-k.k-index (take x.o.now.len x.o.now.block) c.loop-k-test.false) c.loop-k.invariant

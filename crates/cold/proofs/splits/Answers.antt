@@ -1,17 +1,13 @@
--- `cold::splits` meets its contract, test by test.
-use mathlib.Core.Path.{refl, sym, ◌∙◌}
-use borrow.Author.Tests.{lt-ltb, le-ltb}
-use Rattle.cold.specs.Sides.{splits_by}
+-- `cold::splits` meets its contract: the entry, if it is warm and a block is cold.
+use Rattle.std.proofs.Common.{rules, ◌≡◌, ℕ, get_or, ◌∙◌, ◌&&◌, not, cond}
+use Rattle.std.specs.Prelude.{Option, None, Some}
+use Rattle.rules.specs.Graph.{is_cold}
+use Rattle.cold.specs.Sides.{any_cold}
+use Rattle.cold.proofs.SideLaws.{splits_are}
 use Rattle.cold.proofs.splits.Goals as goal
 
-pub returns-then-entry-ge-BLOCKS : goal.returns-then-entry-ge-BLOCKS
-unfolding splits_by
-returns-then-entry-ge-BLOCKS c = rw (le-ltb _ _ c.if-entry-ge-BLOCKS.true) refl
-
-pub returns-then-is_cold : goal.returns-then-is_cold
-unfolding splits_by
-returns-then-is_cold c = rw (lt-ltb _ _ c.if-entry-ge-BLOCKS.false, sym c.is_cold.ensures ∙ c.if-is_cold.true) refl
-
 pub returns : goal.returns
-unfolding splits_by
-returns c = rw (lt-ltb _ _ c.if-entry-ge-BLOCKS.false, sym c.is_cold.ensures ∙ c.if-is_cold.false) c.any_cold.ensures
+returns c =
+    let g = c.args.g.now in
+    let filtered : c.filter.result ≡ elim c.entry.result as (λ (o : Option ℕ). Option ℕ) [ None ↦ None | Some e ↦ cond (not (is_cold (get_or g.b.marks e 0)) && any_cold g) (Some e) None ] = search rules in
+    filtered ∙ splits_are g c.requires c.entry.result c.entry.ensures

@@ -1,16 +1,14 @@
 -- `connect::next_trace` meets its contract: the best among the arms left, from the best so far, stays that among all.
-use Prim.Native.Nat.{◌-◌, ◌≤◌}
+use Prim.Native.Nat.{◌-◌}
 use mathlib.Core.Path.{◌≡◌}
-use mathlib.Core.Option.{none}
-use Rattle.limits.specs.Limits.{arms}
-use Rattle.connect.specs.Links.{link_of, leads_by, Unused}
+use Rattle.std.specs.Prelude.{None}
+use Rattle.std.specs.Option.{option_map}
+use Rattle.records.specs.Tables.{}
+use Rattle.connect.specs.Links.{link_in, leads_by, Unused}
 use Rattle.connect.proofs.LinkLaws.{chosen}
 use Rattle.connect.proofs.next_trace.Given as goal
 
 abbrev pub invariant-loop-q : goal.invariant-loop-q
 invariant-loop-q l =
-    (l.f ≤ l.q) × (l.q ≤ l.end) × (l.end ≤ arms) × Unused l.head l.used (link_of l.best)
-    × (chosen (leads_by l.marks l.to l.heft l.ends l.head l.used l.cold) (link_of l.best) l.q (l.end - l.q) ≡ chosen (leads_by l.marks l.to l.heft l.ends l.head l.used l.cold) none l.f (l.end - l.f))
-
-abbrev pub decreases-loop-q : goal.decreases-loop-q
-decreases-loop-q l = l.end - l.q
+    Unused l.head l.used (option_map link_in l.best)
+    × (chosen (leads_by l.g l.found.ends l.head l.used l.cold) (option_map link_in l.best) l.q (l.q-end - l.q) ≡ chosen (leads_by l.g l.found.ends l.head l.used l.cold) None l.first (l.q-end - l.first))

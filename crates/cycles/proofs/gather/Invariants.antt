@@ -1,20 +1,16 @@
 -- `cycles::gather` meets its contract: while it runs, the blocks of the list up to here are in pieces.
-use Prim.Native.Nat.{ℕ, ◌+◌}
-use mathlib.Core.Path.{◌≡◌}
-use mathlib.Core.List.{List}
-use lib.ListN.{length}
-use Rattle.limits.specs.Limits.{blocks, arms}
+use Rattle.std.proofs.Common.{ℕ, ◌+◌, ◌≡◌, List, length}
+use Rattle.limits.specs.Limits.{blocks}
 use Rattle.lists.specs.Marked.{marked}
-use Rattle.stack.specs.Frames.{frames, Roomy}
-use Rattle.cycles.specs.Inward.{Linked}
+use Rattle.cycles.specs.Inward.{Lists}
 use Rattle.cycles.specs.Gathering.{blocks_on}
-use Rattle.cycles.proofs.GatherLaws.{Going}
+use Rattle.cycles.proofs.GatherLaws.{Going, depth}
 use Rattle.cycles.proofs.gather.Given as goal
 
-abbrev pub invariant-loop-k : goal.invariant-loop-k
-invariant-loop-k l =
-    (length l.piece ≡ blocks) × (l.len + marked l.initial.piece blocks ≡ l.initial.len + marked l.piece blocks)
-    × ((w : List ℕ) → Linked l.next l.from arms l.start w → Going l.next l.from w l.number l.initial.piece (blocks_on (frames l.initial.waiting l.initial.started l.initial.len)) l.piece (blocks_on (frames l.waiting l.started l.len)) l.k) × Roomy l.waiting l.started
+abbrev pub invariant-loop-next : goal.invariant-loop-next
+invariant-loop-next l =
+    (length l.stack + marked l.initial.piece blocks ≡ length l.initial.stack + marked l.piece blocks)
+    × ((f : ℕ → List ℕ) → Lists l.t f → Going l.t (f l.block) l.number l.initial.piece (blocks_on l.initial.stack) l.piece (blocks_on l.stack) l.next)
 
-abbrev pub decreases-loop-k : goal.decreases-loop-k
-decreases-loop-k l = l.k
+abbrev pub decreases-loop-next : goal.decreases-loop-next
+decreases-loop-next l = depth l.next

@@ -1,60 +1,35 @@
--- `cycles::link_all` meets its contract: while it runs, the arms of the first i listed blocks are linked.
-use Prim.Native.Nat.{ℕ, ◌+◌, ◌<◌}
-use native.Mathlib.Omega.{arith}
-use mathlib.Core.Path.{◌≡◌, sym, subst}
-use lib.ListN.{get_or}
-use Rattle.limits.specs.Limits.{blocks}
-use Rattle.cycles.specs.Inward.{ins}
-use Rattle.cycles.proofs.InwardLaws.{lists_none, lists_done, arms_fit, arms_none, arms_more, ins_more}
-use borrow.Author.Rules.{rules}
+-- `cycles::link_all` meets its contract: while it runs, the arms of the first listed blocks are linked.
+use Rattle.std.proofs.Common.{ℕ, ◌≡◌, ◌<◌, get_or, ap, ◌∙◌, subst, arith, get_or-take, length-take-le}
+use Rattle.cycles.specs.Inward.{Lists, ins}
+use Rattle.cycles.proofs.InwardLaws.{ins_none, ins_more}
+use Rattle.cycles.proofs.StandingLaws.{armed_none, armed_more, goes, arms_room}
 use Rattle.cycles.proofs.link_all.Goals as goal
 
-pub loop-i-init : goal.loop-i-init
-loop-i-init c =
-    let x = c.args in
-    (search rules, arms_none x.listed.now x.count.now, c.requires.sized.0, lists_none c.requires.sized.1 x.listed.now x.first.now x.count.now x.to.now)
+pub loop-m-init : goal.loop-m-init
+loop-m-init c = (c.requires.1 ∙ armed_none c.args.g.now.b c.args.g.now.a, ins_none c.args.g.now _ c.requires.1 c.requires.2)
 
 pub link_arms-requires : goal.link_arms-requires
 link_arms-requires c =
-    let l = c.loop-i in
-    let h = c.loop-i-test.true in
-    let x = c.args in
-    let p = c.requires.linkable in
-    let m = get_or x.listed.now l.i 0 in
-    let ec = c.entry_of-c.ensures in
-    let eq = c.entry_of-q.ensures in record {
-      sized = (
-        l.invariant.2,
-        p.to_sized,
-        omega (arith, ec, eq, p.fits m),
-        omega (arith, ec, l.invariant.1, p.room, arms_fit x.listed.now x.count.now l.i x.n h),
-        p.low l.i h,
-      );
-      by_index = λ j k. subst (λ (z : ℕ). get_or x.to.now (z + j) 0 < blocks) (sym eq) (p.goes l.i h j (omega (arith, k, ec)));
-    }
+    let g = c.args.g.now in
+    let s = c.requires.0.fitting.stands in
+    let i = c.loop-m.m-index in
+    let inside : i < g.blocks = omega (arith, length-take-le g.blocks g.b.listed (omega (arith, s.few, s.blocks_sized.listed)), c.loop-m-test.true) in
+    let here = get_or-take g.blocks g.b.listed i 0 inside in
+    rw here (record { fits = (s.fits (get_or g.b.listed i 0), omega (arith, c.loop-m.invariant.0, arms_room g c.requires.0 i inside), s.below i inside); goes = goes g c.requires.0 i inside })
 
-pub overflow_add-at : goal.overflow_add-at
-overflow_add-at c =
-    let l = c.loop-i in
-    let h = c.loop-i-test.true in
-    let x = c.args in
-    omega (arith, c.entry_of-c.ensures, l.invariant.1, c.requires.linkable.room, arms_fit x.listed.now x.count.now l.i x.n h)
-
-pub loop-i-preserved : goal.loop-i-preserved
-loop-i-preserved c =
-    let l = c.loop-i in
-    let x = c.args in
-    let ec = c.entry_of-c.ensures in
-    let eq = c.entry_of-q.ensures in (
-      search rules,
-      arms_more x.listed.now x.count.now l.i l.at _ l.invariant.1 ec,
-      c.link_arms.ensures.sized_2,
-      ins_more x.listed.now x.first.now x.count.now x.to.now l.i l.at _ _ eq ec (c.link_arms.ensures.by_index_2 (ins x.listed.now x.first.now x.count.now x.to.now l.i) l.invariant.3),
-    )
+pub loop-m-preserved : goal.loop-m-preserved
+loop-m-preserved c =
+    let g = c.args.g.now in
+    let s = c.requires.0.fitting.stands in
+    let i = c.loop-m.m-index in
+    let inside : i < g.blocks = omega (arith, length-take-le g.blocks g.b.listed (omega (arith, s.few, s.blocks_sized.listed)), c.loop-m-test.true) in
+    let here = get_or-take g.blocks g.b.listed i 0 inside in
+    (omega (arith, c.link_arms.ensures.0, c.loop-m.invariant.0, armed_more g.b g.a i, ap (λ (m : ℕ). get_or g.a.count m 0) here), ins_more g i _ here (c.link_arms.ensures.1 (ins g i) c.loop-m.invariant.1))
 
 pub returns : goal.returns
 returns c =
-    let l = c.loop-i in
-    let x = c.args in
-    let e : l.i ≡ x.n = omega (arith, l.invariant.0) in
-    record { sized_2 = l.invariant.2; lists = lists_done x.listed.now x.first.now x.count.now x.to.now l.at l.i x.n e l.invariant.1 c.requires.linkable.room l.invariant.3 }
+    let g = c.args.g.now in
+    let s = c.requires.0.fitting.stands in
+    let l = c.loop-m in
+    let e : l.m-index ≡ g.blocks = omega (arith, length-take-le g.blocks g.b.listed (omega (arith, s.few, s.blocks_sized.listed)), c.loop-m-test.false, l.auto.m-index-end) in
+    subst (λ (i : ℕ). Lists l.t (ins g i)) e l.invariant.1

@@ -1,11 +1,7 @@
 -- `forwarding::reach` meets its contract: while it runs, the arms so far are seen.
-use Prim.Native.Nat.{◌-◌, ◌≤◌}
-use mathlib.Core.Path.{◌≡◌}
-use Rattle.forwarding.specs.Steps.{reach_of}
+use Rattle.std.proofs.Common.{take}
+use Rattle.forwarding.specs.Steps.{Reached}
 use Rattle.forwarding.proofs.reach.Given as goal
 
-abbrev pub invariant-loop-j : goal.invariant-loop-j
-invariant-loop-j l = (l.j ≤ l.count) × (l.reached ≡ reach_of l.to l.first l.initial.reached l.j)
-
-abbrev pub decreases-loop-j : goal.decreases-loop-j
-decreases-loop-j l = l.count - l.j
+abbrev pub invariant-loop-k : goal.invariant-loop-k
+invariant-loop-k l = Reached (take l.k-index l.to) l.initial.reached l.reached

@@ -1,23 +1,26 @@
--- `heads::hottest` meets its contract: while it runs, the hottest of the first i listed blocks is known.
-use native.Mathlib.Omega.{arith}
-use mathlib.Core.Path.{◌≡◌, ap, ◌∙◌}
-use Rattle.heads.specs.Heading.{hot_to}
-use Rattle.heads.proofs.MarkLaws.{hot_none, hot_more}
-use borrow.Author.Rules.{rules}
+-- `heads::hottest` meets its contract.
+use Rattle.std.proofs.Common.{ℕ, ◌≡◌, ◌<◌, get_or, sym, ap, ◌∙◌, arith, get_or-take, length-take-le}
+use Rattle.rules.specs.Heads.{hottest}
+use Rattle.records.specs.Tables.{up_to, tabled}
+use Rattle.heads.proofs.HeadLaws.{hot_none, hot_more}
 use Rattle.heads.proofs.hottest.Goals as goal
 
-pub loop-i-init : goal.loop-i-init
-loop-i-init c = (search rules, hot_none c.args.listed.now c.args.weight.now)
+pub loop-m-init : goal.loop-m-init
+loop-m-init c = hot_none c.args.g.now.b c.args.g.now.a
 
-pub loop-i-preserved : goal.loop-i-preserved
-loop-i-preserved c =
-    let x = c.args in
-    let l = c.loop-i in
-    (search rules, hot_more x.listed.now x.weight.now l.i l.hot _ _ l.invariant.1 c.weight_of.ensures c.greater-hot.ensures)
+pub loop-m-preserved : goal.loop-m-preserved
+loop-m-preserved c =
+    let g = c.args.g.now in
+    let l = c.loop-m in
+    let inside : l.m-index < g.blocks = omega (arith, length-take-le g.blocks g.b.listed (omega (arith, c.requires.stands.few, c.requires.stands.blocks_sized.listed)), c.loop-m-test.true) in
+    let here = get_or-take g.blocks g.b.listed l.m-index 0 inside in
+    let weight = c.weight_of.ensures ∙ ap (λ (m : ℕ). get_or g.b.weight m 0) here in
+    c.max-hot.ensures ∙ rw (l.invariant, weight) (sym (hot_more g.b g.a l.m-index))
 
 pub returns : goal.returns
+unfolding tabled
 returns c =
-    let x = c.args in
-    let l = c.loop-i in
-    let e : l.i ≡ x.n = omega (arith, l.invariant.0) in
-    l.invariant.1 ∙ ap (hot_to x.listed.now x.weight.now) e
+    let g = c.args.g.now in
+    let l = c.loop-m in
+    let e : l.m-index ≡ g.blocks = omega (arith, length-take-le g.blocks g.b.listed (omega (arith, c.requires.stands.few, c.requires.stands.blocks_sized.listed)), c.loop-m-test.false, l.auto.m-index-end) in
+    l.invariant ∙ ap (λ (i : ℕ). hottest (up_to g.b g.a i)) e

@@ -1,11 +1,8 @@
--- `heads::hottest` meets its contract: while it runs, the hottest of the first i listed blocks is known.
-use Prim.Native.Nat.{◌-◌, ◌≤◌}
-use mathlib.Core.Path.{◌≡◌}
-use Rattle.heads.specs.Heading.{hot_to}
+-- `heads::hottest` meets its contract: while it runs, the hottest of the first listed blocks is known.
+use Rattle.std.proofs.Common.{◌≡◌}
+use Rattle.rules.specs.Heads.{hottest}
+use Rattle.records.specs.Tables.{up_to}
 use Rattle.heads.proofs.hottest.Given as goal
 
-abbrev pub invariant-loop-i : goal.invariant-loop-i
-invariant-loop-i l = (l.i ≤ l.n) × (l.hot ≡ hot_to l.listed l.weight l.i)
-
-abbrev pub decreases-loop-i : goal.decreases-loop-i
-decreases-loop-i l = l.n - l.i
+abbrev pub invariant-loop-m : goal.invariant-loop-m
+invariant-loop-m l = l.hot ≡ hottest (up_to l.g.b l.g.a l.m-index)

@@ -1,38 +1,36 @@
--- `heads::mark_heads` meets its contract: while it runs, the heads of the places 1 to i are marked.
-use native.Mathlib.Omega.{arith}
-use mathlib.Core.Path.{sym, ◌∙◌}
-use Rattle.heads.specs.Heading.{heads}
-use Rattle.heads.proofs.MarkLaws.{head_none, head_yes, head_no, head_end}
+-- `heads::mark_heads` meets its contract.
+use Rattle.std.proofs.Common.{ℕ, ◌≡◌, refl, sym, ap, ◌∙◌, arith}
+use Rattle.lists.proofs.Choices.{split_lt}
+use Rattle.marks.specs.Sets.{member}
+use Rattle.heads.specs.Heading.{heads, head_to}
+use Rattle.heads.proofs.MarkLaws.{head_one, head_yes, head_no}
+use Rattle.heads.proofs.mark_heads.Goals.{then-is_head, else-is_head}
 use Rattle.heads.proofs.mark_heads.Goals as goal
 
 pub loop-i-init : goal.loop-i-init
 loop-i-init c =
-    let x = c.args in
-    (omega arith, (λ h. omega arith, c.requires.set_len.0, λ m. c.requires.set_len.1 m ∙ head_none x.listed.now (heads x.weight.now x.back.now x.floor) m))
-
-pub mark-requires : goal.mark-requires
-mark-requires c =
-    let l = c.loop-i in
-    (l.invariant.1.1, c.requires.n_le_blocks.4 l.i c.loop-i-test.true)
-
-pub loop-i-preserved-then-is_head : goal.loop-i-preserved-then-is_head
-loop-i-preserved-then-is_head c =
-    let x = c.args in
-    let l = c.loop-i in
-    let h = c.loop-i-test.true in
-    let y = sym c.is_head.ensures ∙ c.if-is_head.true in
-    (omega (arith, l.invariant.0), (λ k. omega (arith, k, h), c.mark.ensures.0, λ m. head_yes x.listed.now (heads x.weight.now x.back.now x.floor) m l.i _ _ l.invariant.0 (l.invariant.1.2 m) (c.mark.ensures.1 m) y))
+    let b = c.args.g.now.b in
+    (λ h. refl, λ m. c.none-set.ensures m ∙ head_one b.listed (heads b.weight c.args.back.now c.args.floor) m 1 (omega arith))
 
 pub loop-i-preserved : goal.loop-i-preserved
 loop-i-preserved c =
-    let x = c.args in
+    let b = c.args.g.now.b in
     let l = c.loop-i in
-    let h = c.loop-i-test.true in
-    let y = sym c.is_head.ensures ∙ c.if-is_head.false in
-    (omega (arith, l.invariant.0), (λ k. omega (arith, k, h), l.invariant.1.1, λ m. head_no x.listed.now (heads x.weight.now x.back.now x.floor) m l.i _ l.invariant.0 (l.invariant.1.2 m) y))
+    let p = heads b.weight c.args.back.now c.args.floor in
+    let h = c.loop-i-test.true in (
+      λ k. omega (arith, h, k),
+      λ m. elim c.if-is_head.branch [
+        | then-is_head w ↦ rw w.set-is (head_yes b.listed p m l.i (member l.set m) _ l.auto.i (l.invariant.1 m) (w.mark.ensures m) (sym c.is_head.ensures ∙ w.if-is_head.true))
+        | else-is_head w ↦ rw w.set-is (head_no b.listed p m l.i (member l.set m) l.auto.i (l.invariant.1 m) (sym c.is_head.ensures ∙ w.if-is_head.false))
+      ],
+    )
 
+-- with no block the loop stands at 1 all the same
 pub returns : goal.returns
 returns c =
-    let x = c.args in
+    let g = c.args.g.now in
     let l = c.loop-i in
-    (l.invariant.1.1, λ m. l.invariant.1.2 m ∙ head_end x.listed.now (heads x.weight.now x.back.now x.floor) m l.i x.n c.loop-i-test.false l.invariant.1.0)
+    let p = heads g.b.weight c.args.back.now c.args.floor in
+    λ m. l.invariant.1 m ∙ split_lt g.blocks l.i
+    (λ h. let one : l.i ≡ 1 = l.invariant.0 h in sym (head_one g.b.listed p m l.i (omega (arith, one))) ∙ head_one g.b.listed p m g.blocks (omega (arith, h, one)))
+    (λ h. let e : l.i ≡ g.blocks = omega (arith, h, c.loop-i-test.false) in ap (λ (i : ℕ). head_to g.b.listed p i m) e)

@@ -1,11 +1,8 @@
--- `listing::looped` meets its contract: while it runs, the first i listed blocks with another of their piece are marked.
-use Prim.Native.Nat.{◌-◌, ◌≤◌}
-use Rattle.listing.specs.Loops.{mate_to}
+-- `listing::looped` meets its contract: while it runs, the first listed blocks with another of their piece are marked.
+use Rattle.std.proofs.Common.{◌≤◌, length}
+use Rattle.listing.specs.Loops.{mate}
 use Rattle.listing.proofs.LoopLaws.{Chosen}
 use Rattle.listing.proofs.looped.Given as goal
 
-abbrev pub invariant-loop-i : goal.invariant-loop-i
-invariant-loop-i l = (l.i ≤ l.n) × Chosen l.listed (mate_to l.listed l.piece l.n) l.i l.set
-
-abbrev pub decreases-loop-i : goal.decreases-loop-i
-decreases-loop-i l = l.n - l.i
+abbrev pub invariant-loop-m : goal.invariant-loop-m
+invariant-loop-m l = (l.g.blocks ≤ length l.g.b.listed) × Chosen l.m-items (mate l.g l.piece) l.m-index l.set

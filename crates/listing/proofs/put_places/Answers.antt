@@ -1,74 +1,39 @@
--- `listing::put_places` meets its contract: while it runs, the front of the room has the lines of the first i places.
-use Prim.Native.Nat.{ℕ, ◌≤◌}
-use native.Mathlib.Numerals.{add-one}
-use native.Mathlib.Omega.{arith}
-use mathlib.Core.Path.{◌≡◌, refl, sym, ap, ◌∙◌}
-use mathlib.Core.Bool.{false}
-use mathlib.Core.List.{List, ◌++◌}
-use lib.ListN.{length, get_or}
-use Rattle.listing.specs.Lines.{front_of, back_of, shown, line_at, lines_to}
+-- `listing::put_places` meets its contract: while it runs, the lines of the first i places are put.
+use Rattle.std.proofs.Common.{ℕ, ◌≡◌, ◌≤◌, ◌++◌, ap, ◌∙◌, sym, arith, add-one, subst, length, get_or, List}
+use Rattle.listing.specs.Put.{Put}
+use Rattle.listing.specs.Lines.{front_of, back_of, line_at, lines_to}
 use Rattle.listing.proofs.PutLaws.{put_none, put_then, put_same}
-use Rattle.listing.proofs.LineLaws.{line_fits}
-use borrow.Author.Rules.{rules}
+use Rattle.listing.proofs.LineLaws.{front_fits, back_fits}
 use Rattle.listing.proofs.put_places.Goals as goal
 
 pub loop-i-init : goal.loop-i-init
 unfolding lines_to
-loop-i-init c = (search rules, search rules, refl, put_none c.args.out.now)
-
-pub weight_of-requires : goal.weight_of-requires
-weight_of-requires c = c.requires.printable.weight_sized
-
-pub put_block-next-requires : goal.put_block-next-requires
-put_block-next-requires c =
-    let l = c.loop-i in
-    let h = c.requires.printable.low l.i c.loop-i-test.true in
-    omega (arith, c.requires.n_in_bounds, c.requires.printable.few, l.invariant.1, line_fits l.i (get_or c.args.listed.now l.i 0) c.weight_of.result 0 0 false false (omega (arith, c.requires.printable.few)) (omega (arith, h)) (omega arith))
-
-pub byte_of-requires : goal.byte_of-requires
-byte_of-requires c = c.requires.printable.marks_sized
-
-pub is_marked-requires : goal.is_marked-requires
-is_marked-requires c = c.requires.printable.heads_sized
-
-pub is_marked-requires-in-loop-i : goal.is_marked-requires-in-loop-i
-is_marked-requires-in-loop-i c = c.requires.printable.loops_sized
-
-pub byte_of-requires-in-loop-i : goal.byte_of-requires-in-loop-i
-byte_of-requires-in-loop-i c = c.requires.printable.exits_sized
-
-pub put_laid-at-requires : goal.put_laid-at-requires
-put_laid-at-requires c =
-    let l = c.loop-i in
-    let h = c.requires.printable.low l.i c.loop-i-test.true in
-    omega (arith, c.requires.n_in_bounds, c.requires.printable.few, l.invariant.1, c.put_block-next.ensures.ends, line_fits l.i (get_or c.args.listed.now l.i 0) c.weight_of.result c.byte_of.result c.byte_of-in-loop-i.result c.is_marked.result c.is_marked-in-loop-i.result (omega (arith, c.requires.printable.few)) (omega (arith, h)) (omega (arith, c.byte_of-in-loop-i.type_inv)))
+loop-i-init c = (omega arith, put_none c.args.text.now (omega (arith, c.requires.room)))
 
 pub loop-i-preserved : goal.loop-i-preserved
 unfolding line_at lines_to
 loop-i-preserved c =
-    let x = c.args in
-    let l = c.loop-i in
-    let h = c.requires.printable.low l.i c.loop-i-test.true in
-    let t = shown x.listed.now x.marks.now x.weight.now x.exits.now x.heads.now x.loops.now in
-    let front = c.put_block-next.ensures in
-    let back = c.put_laid-at.ensures in
-    let fits = line_fits l.i (get_or c.args.listed.now l.i 0) c.weight_of.result c.byte_of.result c.byte_of-in-loop-i.result c.is_marked.result c.is_marked-in-loop-i.result (omega (arith, c.requires.printable.few)) (omega (arith, h)) (omega (arith, c.byte_of-in-loop-i.type_inv)) in
-    let e : front_of l.i (get_or x.listed.now l.i 0) c.weight_of.result ++ back_of c.byte_of.result c.is_marked.result c.is_marked-in-loop-i.result c.byte_of-in-loop-i.result ≡ line_at t l.i =
-    rw (c.weight_of.ensures, c.byte_of.ensures, c.is_marked.ensures, c.is_marked-in-loop-i.ensures, c.byte_of-in-loop-i.ensures) in
-    let p : l.at ≤ length l.out = omega (arith, c.requires.n_in_bounds, l.invariant.1) in (
-      omega (arith, c.loop-i-test.true),
-      omega (arith, l.invariant.1, front.ends, back.ends, fits),
-      omega (arith, c.put_laid-at.auto.out, c.put_block-next.auto.out, l.invariant.2),
-      put_same (ap (λ (r : List ℕ). lines_to t l.i ++ r) e ∙ ap (lines_to t) (sym (add-one l.i))) (put_then (omega arith) l.invariant.3 (put_then p front back)),
+    let i = c.loop-i.i in
+    let n = get_or c.args.l.now.graph.b.listed i 0 in
+    let h = c.requires.printable.low i c.loop-i-test.true in
+    let lines : ℕ → List ℕ = λ k. lines_to c.args.l.now c.args.heads.now c.args.loops.now k in
+    let e : front_of i n c.weight_of.result ++ back_of c.marks_of.result c.is_marked.result c.is_marked-in-loop-i.result c.at.result ≡ line_at c.args.l.now c.args.heads.now c.args.loops.now i =
+    rw (c.weight_of.ensures, c.marks_of.ensures, c.is_marked.ensures, c.is_marked-in-loop-i.ensures, c.at.ensures) in
+    let was : c.args.text.now.len ≤ length c.args.text.now.out.now = omega (arith, c.requires.room) in
+    let front : c.loop-i.text.len ≤ length c.loop-i.text.out.now = omega (arith, c.requires.room, c.requires.printable.few, c.loop-i.invariant.1.long) in (
+      omega (
+        arith,
+        c.requires.printable.few,
+        c.put_block.ensures.ends,
+        c.put_laid.ensures.ends,
+        front_fits i n c.weight_of.result,
+        back_fits c.marks_of.result c.at.result c.is_marked.result c.is_marked-in-loop-i.result,
+      ),
+      put_same (ap (λ (r : List ℕ). lines i ++ r) e ∙ ap lines (sym (add-one i))) (put_then was c.loop-i.invariant.1 (put_then front c.put_block.ensures c.put_laid.ensures)),
     )
-
-pub shape_of-out : goal.shape_of-out
-shape_of-out c = c.loop-i.invariant.2
 
 pub returns : goal.returns
 returns c =
-    let x = c.args in
-    let l = c.loop-i in
-    let e : l.i ≡ x.n = omega arith in
-    let t = shown x.listed.now x.marks.now x.weight.now x.exits.now x.heads.now x.loops.now in
-    record { upper_bound = omega (arith, l.invariant.1, e); put = put_same (ap (lines_to t) e) l.invariant.3 }
+    let l = c.args.l.now in
+    let e : c.loop-i.i ≡ l.graph.blocks = omega arith in
+    record { upper_bound = omega (arith, c.loop-i.invariant.0, e); put = subst (λ (i : ℕ). Put (lines_to l c.args.heads.now c.args.loops.now i) c.args.text.now c.loop-i.text) e c.loop-i.invariant.1 }

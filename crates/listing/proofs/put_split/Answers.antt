@@ -1,28 +1,15 @@
 -- `listing::put_split` meets its contract: its two words in turn.
-use Prim.Native.Nat.{◌≤◌}
-use native.Mathlib.Omega.{arith}
-use lib.ListN.{length}
+use Rattle.std.proofs.Common.{arith, length, ◌≤◌}
 use Rattle.listing.proofs.PutLaws.{put_then, put_same}
-use Rattle.listing.proofs.LineLaws.{split_none, split_some, none_long, some_long, split_least}
+use Rattle.listing.proofs.LineLaws.{last_none, last_some}
 use Rattle.listing.proofs.put_split.Goals as goal
 
-pub put_word-next-requires : goal.put_word-next-requires
-put_word-next-requires c = omega (arith, c.requires, split_least c.args.split)
+pub returns-in-Some : goal.returns-in-Some
+returns-in-Some c =
+    let h : c.args.text.now.len ≤ length c.args.text.now.out.now = omega arith in
+    rw c.in-Some.is (put_same (last_some c.in-Some.place) (put_then h c.put_word.ensures c.put_number.ensures))
 
-pub put_word-requires : goal.put_word-requires
-put_word-requires c = omega (arith, c.requires, none_long c.args.split c.if-split-eq-NO_SPLIT.true)
-
-pub returns-then-split-eq-NO_SPLIT : goal.returns-then-split-eq-NO_SPLIT
-returns-then-split-eq-NO_SPLIT c =
-    let x = c.args in
-    let h : x.at ≤ length x.out.now = omega (arith, c.requires) in
-    put_same (split_none x.split c.if-split-eq-NO_SPLIT.true) (put_then h c.put_word-next.ensures c.put_word.ensures)
-
-pub put_number-requires : goal.put_number-requires
-put_number-requires c = omega (arith, c.requires, some_long c.args.split c.if-split-eq-NO_SPLIT.false)
-
-pub returns : goal.returns
-returns c =
-    let x = c.args in
-    let h : x.at ≤ length x.out.now = omega (arith, c.requires) in
-    put_same (split_some x.split c.if-split-eq-NO_SPLIT.false) (put_then h c.put_word-next.ensures c.put_number.ensures)
+pub returns-in-None : goal.returns-in-None
+returns-in-None c =
+    let h : c.args.text.now.len ≤ length c.args.text.now.out.now = omega arith in
+    rw c.in-None.is (put_same last_none (put_then h c.put_word.ensures c.put_word-in-None.ensures))

@@ -1,81 +1,77 @@
 -- `reader::read_arms` meets its contract: while it runs, the records so far are arms and the tables say what they say.
-use native.Mathlib.Omega.{arith}
-use mathlib.Core.Path.{◌≡◌, refl, sym, subst, ◌∙◌}
-use Rattle.records.specs.declared.Arms.{Arms}
-use Rattle.records.specs.Tables.{ArmsSized, ArmsWithin}
-use Rattle.records.proofs.Laws.{part_record}
-use Rattle.reader.proofs.ArmLaws.{from_inside, none_sized, none_within, added_sized, added_within, Held, held_start, held_all, held_no_arm, held_refused, held_turn}
-use borrow.Author.Rules.{rules}
+use Rattle.std.proofs.Common.{ℕ, ◌≡◌, ◌<◌, ◌+◌, ◌-◌, ◌/◌, length, sym, subst, refl, ◌∙◌, arith, get_or, add-zero}
+use Rattle.std.specs.Prelude.{None}
+use Rattle.limits.specs.Limits.{size}
+use Rattle.rules.specs.declared.Fault.TheVariants.{OutOfOrder}
+use Rattle.rules.specs.Records.{before, records}
+use Rattle.records.specs.Faults.{arm_fault}
+use Rattle.records.proofs.Laws.{record_is}
+use Rattle.reader.specs.Reads.{ArmsHeld}
+use Rattle.reader.proofs.RefusedLaws.{refused_at, outside_at}
+use Rattle.reader.proofs.ArmLaws.{from_inside, record_behind, behind_long, arms_start, last_start, block_after, block_late, arm_refused, arm_turn, last_turn}
 use Rattle.reader.proofs.read_arms.Goals as goal
 
+pub overflow_add-place : goal.overflow_add-place
+overflow_add-place c = let b = c.requires.0.1 in omega (arith, behind_long b, b.file.short)
+
 pub loop-j-init : goal.loop-j-init
-loop-j-init c =
-    let x = c.args in
-    let z = sym c.requires.3 in
-    (search rules, subst ArmsSized z none_sized, subst (λ (a : Arms). ArmsWithin a 0) z none_within, subst (Held x.place.now x.t.now x.m 0 0) z (held_start x.place.now x.t.now x.m))
+loop-j-init c s b =
+    let h = b.done.held in
+    rw (add-zero c.args.blocks) (subst (ArmsHeld c.args.b.now.place (before s c.args.blocks) (before s c.args.blocks) 0) (sym c.requires.1) (arms_start s c.args.blocks c.args.b.now h), last_start s c.args.blocks c.args.b.now h)
 
-pub returns-in_default : goal.returns-in_default
-returns-in_default c =
+pub returns-in-Some : goal.returns-in-Some
+returns-in-Some c s b =
     let l = c.loop-j in
-    let x = c.args in
-    rw c.no_arm-why.ensures (record { arms_sized = (l.invariant.1, l.invariant.2, l.invariant.0); arms_after = held_no_arm x.place.now x.t.now x.m l.j l.last _ l.invariant.3 c.decode-r.result (sym (part_record x.t.now l.j) ∙ sym c.decode-r.ensures) c.loop-j-test.true c.in_default.in_default-own.keys2 })
+    let i = c.args.blocks + l.j in
+    let h = l.invariant s b in
+    refused_at s i b.file (omega (arith, behind_long b)) h.0.clear _ c.in-Some.fault (record_behind b l.j _ (record_is c.args.t.now l.j _ c.in-Arm.ensures))
+    (arm_refused c.args.b.now.place _ (before s i) _ l.a h.0 _ _ _ _ l.last h.1 c.in-Some.fault
+    (sym (c.arm_fault.ensures ∙ rw (c.place_of-here.ensures, c.place_of.ensures)) ∙ c.in-Some.is))
 
-pub entry_of-here-requires : goal.entry_of-here-requires
-entry_of-here-requires c = c.requires.2
-
-pub entry_of-requires : goal.entry_of-requires
-entry_of-requires c = c.requires.2
-
-pub returns-then-why-ne0 : goal.returns-then-why-ne0
-returns-then-why-ne0 c =
+pub add-requires : goal.add-requires
+add-requires c =
     let l = c.loop-j in
-    let x = c.args in record { arms_sized = (l.invariant.1, l.invariant.2, l.invariant.0); arms_after = held_refused x.place.now x.t.now x.m l.j l.last _ l.invariant.3 _ _ _ _ (sym (part_record x.t.now l.j) ∙ sym c.decode-r.ensures ∙ c.in-Arm.is) _ (c.arm_fault-why.ensures ∙ rw (c.entry_of.ensures, c.entry_of-here.ensures)) c.if-why-ne0.true c.loop-j-test.true }
+    let b = c.requires.0.1 in
+    let place = c.args.b.now.place in
+    let fine : arm_fault (get_or place c.in-Arm.from 0) (get_or place c.in-Arm.to 0) l.last l.j ≡ None = sym (c.arm_fault.ensures ∙ rw (c.place_of-here.ensures, c.place_of.ensures)) ∙ c.in_default.is in
+    (omega (arith, behind_long b, b.file.short), from_inside place _ _ l.last _ b.done.held.sized.place fine, (l.invariant _ b).0.fits)
 
-pub bounds-count-k : goal.bounds-count-k
-bounds-count-k c =
+pub returns-in-Block : goal.returns-in-Block
+returns-in-Block c s b =
     let l = c.loop-j in
-    let x = c.args in
-    from_inside x.place.now c.in-Arm.from c.in-Arm.onto l.last l.j c.requires.2 (sym (c.arm_fault-why.ensures ∙ rw (c.entry_of.ensures, c.entry_of-here.ensures)) ∙ c.if-why-ne0.false)
+    let i = c.args.blocks + l.j in
+    let h = l.invariant s b in
+    let e = record_behind b l.j _ (record_is c.args.t.now l.j _ c.in-Block.ensures) in
+    let inside : i < length s / size = omega (arith, behind_long b) in
+    refused_at s i b.file inside h.0.clear _ OutOfOrder e
+    (block_late c.args.b.now.place _ (before s i) _ l.a h.0 (omega (arith, block_after s c.args.blocks i _ _ _ _ c.args.b.now b.done (omega arith) inside e)) _ _ _ _)
 
-pub bounds-first-k : goal.bounds-first-k
-bounds-first-k c =
+pub returns-in-Outside : goal.returns-in-Outside
+returns-in-Outside c s b =
     let l = c.loop-j in
-    let x = c.args in
-    from_inside x.place.now c.in-Arm.from c.in-Arm.onto l.last l.j c.requires.2 (sym (c.arm_fault-why.ensures ∙ rw (c.entry_of.ensures, c.entry_of-here.ensures)) ∙ c.if-why-ne0.false)
-
-pub bounds-first-k-in-loop-j : goal.bounds-first-k-in-loop-j
-bounds-first-k-in-loop-j c =
-    let l = c.loop-j in
-    let x = c.args in
-    from_inside x.place.now c.in-Arm.from c.in-Arm.onto l.last l.j c.requires.2 (sym (c.arm_fault-why.ensures ∙ rw (c.entry_of.ensures, c.entry_of-here.ensures)) ∙ c.if-why-ne0.false)
-
-pub overflow_add-count : goal.overflow_add-count
-overflow_add-count c =
-    let l = c.loop-j in
-    let x = c.args in
-    omega (arith, l.invariant.2 c.in-Arm.from)
-
-pub bounds-count-k-in-loop-j : goal.bounds-count-k-in-loop-j
-bounds-count-k-in-loop-j c =
-    let l = c.loop-j in
-    let x = c.args in
-    from_inside x.place.now c.in-Arm.from c.in-Arm.onto l.last l.j c.requires.2 (sym (c.arm_fault-why.ensures ∙ rw (c.entry_of.ensures, c.entry_of-here.ensures)) ∙ c.if-why-ne0.false)
+    outside_at s (c.args.blocks + l.j) b.file (omega (arith, behind_long b)) (l.invariant s b).0.clear (record_behind b l.j _ (record_is c.args.t.now l.j _ c.in-Outside.ensures))
 
 pub loop-j-preserved : goal.loop-j-preserved
-loop-j-preserved c =
+loop-j-preserved c s b =
     let l = c.loop-j in
-    let x = c.args in
-    let i = from_inside x.place.now c.in-Arm.from c.in-Arm.onto l.last l.j c.requires.2 (sym (c.arm_fault-why.ensures ∙ rw (c.entry_of.ensures, c.entry_of-here.ensures)) ∙ c.if-why-ne0.false) in
-    rw (c.entry_of-here.ensures, c.first_next.ensures) (
-      search rules,
-      added_sized _ l.j _ _ _ _ l.invariant.1 l.invariant.2 i (omega arith),
-      added_within _ l.j _ c.in-Arm.onto c.in-Arm.a c.in-Arm.w l.invariant.1 l.invariant.2 i (omega arith),
-      held_turn x.place.now x.t.now x.m l.j l.last _ l.invariant.3 _ _ _ _ (sym (part_record x.t.now l.j) ∙ sym c.decode-r.ensures ∙ c.in-Arm.is) (sym (c.arm_fault-why.ensures ∙ rw (c.entry_of.ensures, c.entry_of-here.ensures)) ∙ c.if-why-ne0.false) l.invariant.1 l.invariant.2 c.requires.2 (omega arith),
+    let i = c.args.blocks + l.j in
+    let h = l.invariant s b in
+    let place = c.args.b.now.place in
+    let e = record_behind b l.j _ (record_is c.args.t.now l.j _ c.in-Arm.ensures) in
+    let fine : arm_fault (get_or place c.in-Arm.from 0) (get_or place c.in-Arm.to 0) l.last l.j ≡ None = sym (c.arm_fault.ensures ∙ rw (c.place_of-here.ensures, c.place_of.ensures)) ∙ c.in_default.is in
+    let on : c.args.blocks + (l.j + 1) ≡ i + 1 = omega arith in
+    rw on (
+      subst (ArmsHeld place (before s c.args.blocks) (before s (i + 1)) (l.j + 1)) (sym c.add.ensures)
+          (arm_turn place _ (before s i) l.j l.a h.0 _ _ _ _ l.last h.1 fine b.done.held.sized.place (omega (arith, behind_long b, b.file.short)) s i _ refl e (omega arith)),
+      c.place_of-here.ensures ∙ last_turn place _ (before s i) l.j l.a h.0 _ _ _ _ l.last h.1 s i refl e,
     )
 
 pub returns : goal.returns
-returns c =
+unfolding records
+returns c s b =
     let l = c.loop-j in
-    let x = c.args in
-    let e : l.j ≡ x.m = omega arith in
-    record { arms_sized = (l.invariant.1, l.invariant.2, l.invariant.0); arms_after = held_all x.place.now x.t.now x.m l.j l.last _ l.invariant.3 l.j refl e }
+    let i = c.args.blocks in
+    let e : i + l.j ≡ length s / size = omega (arith, behind_long b) in
+    let k : l.j ≡ length s / size - i = omega (arith, behind_long b) in
+    subst (λ (n : ℕ). ArmsHeld c.args.b.now.place (before s i) (before s n) (length s / size - i) l.a) e
+    (subst (λ (n : ℕ). ArmsHeld c.args.b.now.place (before s i) (before s (i + l.j)) n l.a) k (l.invariant s b).0)

@@ -1,37 +1,36 @@
 -- `rotate::turning_place` meets its contract: the rule's tests, by the tables.
 use native.Mathlib.Omega.{arith}
-use Rattle.rotate.proofs.RotateLaws.{held_in, nowhere, turned_from, not_turned}
+use mathlib.Core.Path.{sym}
+use lib.ListN.{length}
+use Rattle.std.proofs.lemmas.Slice.{between_to_end}
+use Rattle.rotate.proofs.PlaceLaws.{found_at, found_none}
+use Rattle.rotate.proofs.RotateLaws.{turns_empty, turns_nowhere, turns_missing, turns_from, turns_not}
 use Rattle.rotate.proofs.turning_place.Goals as goal
 
-pub back_arm-back-requires : goal.back_arm-back-requires
-back_arm-back-requires c = let d = c.requires.sized in (d.first_sized, d.count_sized, d.heft_sized, d.fits _)
-
-pub returns-in_default : goal.returns-in_default
-returns-in_default c =
+pub returns-in_err-last : goal.returns-in_err-last
+returns-in_err-last c =
     let x = c.args in
-    nowhere x.marks.now x.weight.now x.first.now x.count.now x.to.now x.heft.now x.order.now x.entry x.s x.e c.requires.trace_at _ c.back_arm-back.ensures.result_value
-    c.in_default.is
+    rw c.from_residual.ensures (turns_empty x.g.now x.entry x.trace.now (sym c.in_err-last.ensures.value))
 
-pub offset_bounds-to-q : goal.offset_bounds-to-q
-offset_bounds-to-q c = omega (arith, held_in _ _ c.in-Arm.is c.back_arm-back.ensures.held)
+pub returns-in_err-q : goal.returns-in_err-q
+returns-in_err-q c =
+    let x = c.args in
+    rw c.from_residual-in_err-q.ensures (turns_nowhere x.g.now x.entry x.trace.now _ (sym c.in_ok-last.ensures.value) (c.in_err-q.ensures.value x.g.now.b))
 
-pub bounds-to-q : goal.bounds-to-q
-bounds-to-q c = held_in _ _ c.in-Arm.is c.back_arm-back.ensures.held
-
-pub offset_bounds-heft-q : goal.offset_bounds-heft-q
-offset_bounds-heft-q c = omega (arith, held_in _ _ c.in-Arm.is c.back_arm-back.ensures.held)
-
-pub bounds-heft-q : goal.bounds-heft-q
-bounds-heft-q c = held_in _ _ c.in-Arm.is c.back_arm-back.ensures.held
+pub returns-in_err-p : goal.returns-in_err-p
+returns-in_err-p c =
+    let x = c.args in
+    rw c.from_residual-in_err-p.ensures
+    (turns_missing x.g.now x.entry x.trace.now _ (sym c.in_ok-last.ensures.value) c.in_ok-q.q (c.in_ok-q.ensures.value x.g.now.b) (found_none _ x.trace.now (sym c.in_err-p.ensures)))
 
 pub returns-then-turns : goal.returns-then-turns
 returns-then-turns c =
     let x = c.args in
-    turned_from x.marks.now x.weight.now x.first.now x.count.now x.to.now x.heft.now x.order.now x.entry x.s x.e c.requires.trace_at _ c.back_arm-back.ensures.result_value _
-    c.in-Arm.is _ c.find-p.ensures _ c.turns.ensures c.if-turns.true
+    turns_from x.g.now x.entry x.trace.now _ (sym c.in_ok-last.ensures.value) c.in_ok-q.q (c.in_ok-q.ensures.value x.g.now.b) c.in_ok-p.p (found_at _ x.trace.now c.in_ok-p.p (sym c.in_ok-p.ensures)) _
+    (between_to_end x.trace.now c.in_ok-p.p (length x.trace.now) (omega arith)) _ c.turns.ensures c.if-turns.true
 
-pub returns : goal.returns
-returns c =
+pub returns-else-turns : goal.returns-else-turns
+returns-else-turns c =
     let x = c.args in
-    not_turned x.marks.now x.weight.now x.first.now x.count.now x.to.now x.heft.now x.order.now x.entry x.s x.e c.requires.trace_at _ c.back_arm-back.ensures.result_value _
-    c.in-Arm.is _ c.find-p.ensures _ c.turns.ensures c.if-turns.false
+    turns_not x.g.now x.entry x.trace.now _ (sym c.in_ok-last.ensures.value) c.in_ok-q.q (c.in_ok-q.ensures.value x.g.now.b) c.in_ok-p.p (found_at _ x.trace.now c.in_ok-p.p (sym c.in_ok-p.ensures)) _
+    (between_to_end x.trace.now c.in_ok-p.p (length x.trace.now) (omega arith)) _ c.turns.ensures c.if-turns.false

@@ -1,40 +1,29 @@
--- `seeds::note` meets its contract: noting the arms left, in the table so far, stays noting all.
-use native.Mathlib.Omega.{arith}
-use mathlib.Core.Path.{refl, sym, ap, ◌∙◌}
-use lib.ListN.{length}
-use Rattle.seeds.proofs.ReachedLaws.{raised, raised_length, noted_next, noted_end, goes_in, noted_all}
+-- `seeds::note` meets its contract: the table counts the arms gone through.
+use Rattle.std.proofs.Common.{◌≡◌, ◌-◌, ◌+◌, ◌<◌, arith, length, get_or, rules}
+use Rattle.limits.specs.Limits.{blocks}
+use Rattle.records.specs.Tables.{leaves}
+use Rattle.seeds.specs.Reached.{Entries}
+use Rattle.seeds.proofs.ReachedLaws.{counted_none, counted_more, entries_noted}
 use Rattle.seeds.proofs.note.Goals as goal
 
-pub overflow_add-end : goal.overflow_add-end
-overflow_add-end c = omega (arith, c.entry_of-f.ensures, c.entry_of.ensures, c.requires.0.fits)
-
 pub loop-q-init : goal.loop-q-init
-loop-q-init c =
-    (omega arith, omega arith, omega (arith, c.entry_of-f.ensures, c.entry_of.ensures, c.requires.0.fits), c.requires.1, refl)
-
-pub raise-requires : goal.raise-requires
-raise-requires c =
-    let v = c.loop-q.invariant in
-    (v.3, goes_in c.requires.0 _ _ c.entry_of-f.ensures c.entry_of.ensures c.loop-q.q v.0 c.loop-q-test.true)
+loop-q-init c = let z : c.first_of-first.result - c.first_of-first.result ≡ 0 = omega arith in rw z (counted_none c.args.a.now c.args.n c.args.reached.now)
 
 pub loop-q-preserved : goal.loop-q-preserved
-unfolding raised
 loop-q-preserved c =
     let a = c.args in
-    let v = c.loop-q.invariant in
-    let lt = c.loop-q-test.true in (
-      omega (arith, v.0),
-      omega (arith, lt),
-      v.2,
-      ap length c.raise.ensures ∙ raised_length a.to.now a.heft.now c.loop-q.q c.loop-q.reached ∙ v.3,
-      noted_next a.to.now a.heft.now c.loop-q.q _ c.loop-q.reached _ lt c.raise.ensures ∙ v.4,
-    )
+    let l = c.loop-q in
+    let k = l.q - c.first_of-first.result in
+    let next : l.q + 1 - c.first_of-first.result ≡ k + 1 = omega arith in
+    let long : length l.reached ≡ blocks = search rules in
+    let to = a.a.now.to in
+    let inside : get_or to l.q 0 < length l.reached = omega (arith, c.requires.goes l.q (record { from = omega arith; below = omega arith }), long) in
+    rw (next, c.max.ensures, c.from-k.ensures) (counted_more a.a.now a.n a.reached.now l.reached k l.q (omega arith) inside l.invariant)
 
 pub returns : goal.returns
+unfolding leaves
 returns c =
     let a = c.args in
-    let v = c.loop-q.invariant in record {
-      reached_len = v.3;
-      noted = noted_all c.requires.0 _ _ c.entry_of-f.ensures c.entry_of.ensures a.reached.now c.loop-q.reached c.requires.1
-          (sym (noted_end a.to.now a.heft.now c.loop-q.q _ c.loop-q.reached c.loop-q-test.false) ∙ v.4);
-    }
+    let k : c.loop-q.q - c.first_of-first.result ≡ get_or a.a.now.count a.n 0 = omega arith in
+    let v : Entries a.a.now a.n a.reached.now c.loop-q.reached = rw k at c.loop-q.invariant in
+    record { entries = v; noted = entries_noted a.a.now a.n a.reached.now c.loop-q.reached v }

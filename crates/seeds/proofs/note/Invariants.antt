@@ -1,14 +1,7 @@
--- `seeds::note` meets its contract: noting the arms left, in the table so far, stays noting all.
-use Prim.Native.Nat.{◌-◌, ◌≤◌}
-use mathlib.Core.Path.{◌≡◌}
-use lib.ListN.{length}
-use Rattle.limits.specs.Limits.{blocks, arms}
-use Rattle.seeds.proofs.ReachedLaws.{noted}
+-- `seeds::note` meets its contract: the table counts the arms gone through.
+use Rattle.std.proofs.Common.{◌-◌}
+use Rattle.seeds.proofs.ReachedLaws.{Counted}
 use Rattle.seeds.proofs.note.Given as goal
 
 abbrev pub invariant-loop-q : goal.invariant-loop-q
-invariant-loop-q l =
-    (l.f ≤ l.q) × (l.q ≤ l.end) × (l.end ≤ arms) × (length l.reached ≡ blocks) × (noted l.to l.heft l.q (l.end - l.q) l.reached ≡ noted l.to l.heft l.f (l.end - l.f) l.initial.reached)
-
-abbrev pub decreases-loop-q : goal.decreases-loop-q
-decreases-loop-q l = l.end - l.q
+invariant-loop-q l = Counted l.a l.n l.initial.reached l.reached (l.q - l.first)

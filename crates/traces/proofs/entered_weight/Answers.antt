@@ -1,9 +1,10 @@
 -- `traces::entered_weight` meets its contract.
-use Rattle.traces.proofs.RoundLaws.{entered_none, entered_some}
+use mathlib.Core.Path.{sym, ◌∙◌}
+use Rattle.traces.proofs.RoundLaws.{no_weight, its_weight}
 use Rattle.traces.proofs.entered_weight.Goals as goal
 
-pub returns-then-entry-ge-BLOCKS : goal.returns-then-entry-ge-BLOCKS
-returns-then-entry-ge-BLOCKS c = entered_none _ _ c.if-entry-ge-BLOCKS.true
+pub returns-in-Some : goal.returns-in-Some
+returns-in-Some c = c.weight_of.ensures ∙ its_weight c.args.g.now c.requires.0 _ (sym c.requires.1 ∙ c.in-Some.is)
 
-pub returns : goal.returns
-returns c = entered_some _ _ c.if-entry-ge-BLOCKS.false
+pub returns-in-None : goal.returns-in-None
+returns-in-None c = no_weight _ (sym c.requires.1 ∙ c.in-None.is)

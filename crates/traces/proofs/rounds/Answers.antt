@@ -1,40 +1,28 @@
--- `traces::rounds` meets its contract: while it runs, the first i rounds are done in every graph that has the tables.
-use Prim.Native.Nat.{◌+◌, ◌<◌}
+-- `traces::rounds` meets its contract: while it runs, so many rounds are done, whatever is held.
+use Prim.Native.Nat.{ℕ}
 use native.Mathlib.Omega.{arith}
-use lib.ListN.{length, take}
+use mathlib.Core.Path.{refl, ap, ◌∙◌}
+use Rattle.rules.specs.Weights.{floor}
 use Rattle.rules.specs.Traces.{rounds}
-use Rattle.traces.proofs.RoundLaws.{round_small, rounds_long, done_first, turns_fills, done_more, done_all}
+use lib.ListN.{get_or}
+use Rattle.traces.specs.declared.Round.{Round}
+use Rattle.traces.specs.declared.TheConstants.{ROUNDS}
+use Rattle.traces.proofs.RoundLaws.{done_first, done_holds, done_round, done_all}
 use Rattle.traces.proofs.rounds.Goals as goal
 
-pub loop-i-init : goal.loop-i-init
-loop-i-init c =
-    let x = c.args in
-    (omega arith, c.requires.roomy.0, done_first x.marks.now x.weight.now x.first.now x.count.now x.to.now x.heft.now x.entry x.entered (take x.n x.plain.now) x.seen.now x.starts.now x.reached.now x.order.now x.ends.now x.found)
+pub loop-r-init : goal.loop-r-init
+loop-r-init c = done_first c.args.g.now c.args.w.now
 
-pub floor-low-requires : goal.floor-low-requires
-floor-low-requires c = omega (arith, c.nth_round-r.ensures.1, (round_small c.loop-i.i).1)
+pub fill-requires-clause-holds : goal.fill-requires-clause-holds
+fill-requires-clause-holds c = done_holds c.args.g.now c.args.w.now c.loop-r.w c.loop-r.r-index c.loop-r.invariant c.requires.holds
 
-pub fill-k-requires : goal.fill-k-requires
-fill-k-requires c =
-    let x = c.args in
-    let l = c.loop-i in record { fills = turns_fills x.marks.now x.weight.now x.first.now x.count.now x.to.now x.heft.now x.entry x.entered (take x.n x.plain.now) x.seen.now x.starts.now x.reached.now x.order.now x.ends.now x.found l.seen l.starts l.reached l.order l.ends l.k l.i l.invariant.2 c.requires.turns; roomy = (l.invariant.1, omega (arith, c.nth_round-r.ensures.0, (round_small l.i).0), c.requires.roomy.1, c.requires.roomy.2) }
-
-pub loop-i-smaller : goal.loop-i-smaller
-loop-i-smaller c =
-    omega (arith, c.loop-i-test.true, rounds_long)
-
-pub loop-i-preserved : goal.loop-i-preserved
-loop-i-preserved c =
-    let x = c.args in
-    let l = c.loop-i in
-    let h : l.i < length rounds = omega (arith, c.loop-i-test.true, rounds_long) in (
-      omega (arith, h),
-      c.fill-k.ensures.roomy_2,
-      done_more x.marks.now x.weight.now x.first.now x.count.now x.to.now x.heft.now x.entry x.entered (take x.n x.plain.now) x.seen.now x.starts.now x.reached.now x.order.now x.ends.now x.found l.seen l.starts l.reached l.order l.ends l.k l.i l.invariant.2 h _ _ _ c.nth_round-r.ensures c.floor-low.ensures _ _ _ _ _ _ (l.i + 1) (omega arith) c.fill-k.ensures.filled,
-    )
+pub loop-r-preserved : goal.loop-r-preserved
+unfolding rounds
+loop-r-preserved c =
+    let z : Round = record { likely = 0; often = 0 } in
+    done_round c.args.g.now c.args.w.now c.loop-r.w c.loop-r.r-index c.loop-r.invariant ROUNDS refl z c.loop-r-test.true _ _ c.bar.ensures.likely
+    (c.bar.ensures.low ∙ ap (λ (x : ℕ). floor x (get_or ROUNDS c.loop-r.r-index z).often) c.requires.sound.1) _ c.fill.ensures
 
 pub returns : goal.returns
-returns c =
-    let x = c.args in
-    let l = c.loop-i in
-    record { roomy_2 = l.invariant.1; rounded = done_all x.marks.now x.weight.now x.first.now x.count.now x.to.now x.heft.now x.entry x.entered (take x.n x.plain.now) x.seen.now x.starts.now x.reached.now x.order.now x.ends.now x.found l.seen l.starts l.reached l.order l.ends l.k l.i l.invariant.2 (omega (arith, l.invariant.0, c.loop-i-test.false, rounds_long)) }
+unfolding rounds
+returns c = done_all c.args.g.now c.args.w.now c.loop-r.w c.loop-r.r-index c.loop-r.invariant (omega arith)

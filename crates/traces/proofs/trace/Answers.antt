@@ -1,119 +1,67 @@
--- `traces::trace` meets its contract: while it runs, the trace is on its way in every graph that has the tables.
-use Prim.Native.Nat.{◌+◌}
+-- `traces::trace` meets its contract: while it runs, the trace is on its way, whatever is held.
 use native.Mathlib.Omega.{arith}
-use mathlib.Core.Path.{refl}
-use Rattle.flow.proofs.LentLaws.{sized, small}
+use mathlib.Core.Path.{refl, sym, ◌∙◌, subst}
+use Prim.Native.Nat.{ℕ, ◌+◌}
 use Rattle.seeds.proofs.ReachedLaws.{notes}
-use Rattle.traces.proofs.GrowLaws.{room_for, grows_first, grows_more, grows_turned, below_more, held_arm}
-use borrow.Author.Rules.{rules}
+use Rattle.traces.proofs.HeldLaws.{found_few}
+use lib.ListN.{length-set}
+use Rattle.traces.proofs.GrowLaws.{Grows, put_long, grows_first, grows_on, grows_more, grows_below, grows_turned}
 use Rattle.traces.proofs.trace.Goals as goal
+
+pub begin-start-requires : goal.begin-start-requires
+begin-start-requires c =
+    let a = c.requires.adds in
+    omega (arith, found_few c.requires.sound a.so_far c.args.w.now a.held c.args.from a.free)
 
 pub loop-q-init : goal.loop-q-init
 loop-q-init c =
     let x = c.args in
-    let p = c.requires in
-    (p.seen_len.0, p.seen_len.2, p.seen_len.3, p.by_index, grows_first x.marks.now x.weight.now x.first.now x.count.now x.to.now x.heft.now x.starts.now x.entry x.likely x.low x.from x.start x.seen.now x.reached.now x.order.now)
-
-pub mark-requires : goal.mark-requires
-mark-requires c =
-    let x = c.args in
-    let b = c.requires.begins in
-    let l = c.loop-q in
-    let g = l.invariant.4 b.graph b.so_far b.flows b.ready in
-    let h = small b.flows l.n g.block in
-    (l.invariant.0, omega (arith, h))
-
-pub offset_bounds-order-at : goal.offset_bounds-order-at
-offset_bounds-order-at c =
-    let x = c.args in
-    let b = c.requires.begins in
-    let l = c.loop-q in
-    let g = l.invariant.4 b.graph b.so_far b.flows b.ready in
-    omega (arith, room_for b.flows b.so_far x.likely x.low x.from x.start x.order.now l.seen l.reached l.order l.at l.n g)
-
-pub bounds-order-at : goal.bounds-order-at
-bounds-order-at c =
-    let x = c.args in
-    let b = c.requires.begins in
-    let l = c.loop-q in
-    let g = l.invariant.4 b.graph b.so_far b.flows b.ready in
-    omega (arith, l.invariant.2, room_for b.flows b.so_far x.likely x.low x.from x.start x.order.now l.seen l.reached l.order l.at l.n g)
-
-pub overflow_add-at : goal.overflow_add-at
-overflow_add-at c =
-    let x = c.args in
-    let b = c.requires.begins in
-    let l = c.loop-q in
-    let g = l.invariant.4 b.graph b.so_far b.flows b.ready in
-    omega (arith, room_for b.flows b.so_far x.likely x.low x.from x.start x.order.now l.seen l.reached l.order l.at l.n g)
+    let g = subst (λ (e : ℕ). Grows x.g.now x.bar.likely x.bar.low x.from x.w.now x.w.now.seen x.w.now.reached x.w.now.made.order e x.from) (sym c.begin-start.ensures)
+    (grows_first x.g.now c.requires.sound x.bar.likely x.bar.low x.from x.w.now) in (
+      record { entry = refl; starts = refl; ends = refl; len = refl; order_sized = refl },
+      grows_on x.g.now c.requires.sound x.bar.likely x.bar.low x.from x.w.now c.requires.adds _ _ _ _ _ g,
+      g,
+    )
 
 pub note-requires : goal.note-requires
-note-requires c =
-    let x = c.args in
-    let b = c.requires.begins in
-    let l = c.loop-q in
-    let g = l.invariant.4 b.graph b.so_far b.flows b.ready in
-    (notes b.flows l.n g.block, l.invariant.1)
+note-requires c = notes c.requires.sound c.loop-q.n c.loop-q.invariant.1.block
 
-pub along-next-requires : goal.along-next-requires
-along-next-requires c =
-    record { sized = sized c.requires.begins.flows; seen_len = (c.mark.ensures.0, c.requires.seen_len.4) }
-
-pub rotate-requires : goal.rotate-requires
-rotate-requires c =
+pub rotate-requires-clause-below : goal.rotate-requires-clause-below
+rotate-requires-clause-below c =
     let x = c.args in
-    let b = c.requires.begins in
     let l = c.loop-q in
-    let g = l.invariant.4 b.graph b.so_far b.flows b.ready in
-    let fits = room_for b.flows b.so_far x.likely x.low x.from x.start x.order.now l.seen l.reached l.order l.at l.n g in
-    let Small-one = small b.flows l.n g.block in record {
-      sized = sized b.flows;
-      seen_len = (c.mark.ensures.0, c.requires.seen_len.1);
-      trace_at = record {
-        sized = search rules;
-        some_block = omega (arith, g.at);
-        within = omega (arith, fits);
-        below = below_more l.order l.at l.n (l.at + 1) (omega (arith, fits, l.invariant.2)) (omega (arith, Small-one)) l.invariant.3 (omega arith);
-      };
+    grows_below x.g.now c.requires.sound x.bar.likely x.bar.low x.from x.w.now l.w.seen l.w.reached l.w.made.order l.at l.n l.invariant.2
+    _ _ _ l.invariant.1.inside c.mark.ensures c.note.ensures.noted refl _ c.along.ensures.goes_on (l.at + 1) (omega arith) c.in_default.is _ c.begin-start.ensures c.requires.adds
+
+pub returns-in_default-clause-kept : goal.returns-in_default-clause-kept
+returns-in_default-clause-kept c =
+    let l = c.loop-q in
+    let k = l.invariant.0 in
+    let set = length-set l.w.made.order l.at l.n in
+    record {
+      entry = k.entry;
+      starts = k.starts;
+      ends = k.ends;
+      len = k.len;
+      order_sized = put_long c.begin-start.result _ _ _ (omega (arith, c.begin-start.ensures, set, k.order_sized)) c.rotate.auto.trace ∙ set ∙ k.order_sized;
     }
 
-pub returns-in_default : goal.returns-in_default
-returns-in_default c =
+pub returns-in_default-clause-turned : goal.returns-in_default-clause-turned
+returns-in_default-clause-turned c =
     let x = c.args in
-    let b = c.requires.begins in
     let l = c.loop-q in
-    let g = l.invariant.4 b.graph b.so_far b.flows b.ready in
-    let fits = room_for b.flows b.so_far x.likely x.low x.from x.start x.order.now l.seen l.reached l.order l.at l.n g in record { seen_len_2 = (c.mark.ensures.0, c.note.ensures.reached_len, c.rotate.ensures.order_len); traces = grows_turned x.marks.now x.weight.now x.first.now x.count.now x.to.now x.heft.now x.starts.now x.entry x.likely x.low x.from x.start x.seen.now x.reached.now x.order.now l.seen l.reached l.order l.at l.n l.invariant.4 _ _ _ (omega (arith, fits, c.requires.seen_len.3)) c.mark.ensures.1 c.note.ensures.noted refl _ c.along-next.ensures.goes_on (l.at + 1) (omega arith) c.in_default.is _ c.rotate.ensures.rotated }
-
-pub offset_bounds-to-q : goal.offset_bounds-to-q
-offset_bounds-to-q c =
-    let w = sized c.requires.begins.flows in
-    omega (arith, w.fits c.loop-q.n, held_arm _ _ _ _ c.in-Arm.is c.along-next.ensures.within)
-
-pub bounds-to-q : goal.bounds-to-q
-bounds-to-q c =
-    let w = sized c.requires.begins.flows in
-    omega (arith, w.to_sized, w.fits c.loop-q.n, held_arm _ _ _ _ c.in-Arm.is c.along-next.ensures.within)
-
-pub loop-q-smaller : goal.loop-q-smaller
-loop-q-smaller c =
-    let x = c.args in
-    let b = c.requires.begins in
-    let l = c.loop-q in
-    let g = l.invariant.4 b.graph b.so_far b.flows b.ready in
-    omega (arith, room_for b.flows b.so_far x.likely x.low x.from x.start x.order.now l.seen l.reached l.order l.at l.n g)
+    grows_turned x.g.now c.requires.sound x.bar.likely x.bar.low x.from x.w.now l.w.seen l.w.reached l.w.made.order l.at l.n l.invariant.2
+    _ _ _ l.invariant.1.inside c.mark.ensures c.note.ensures.noted refl _ c.along.ensures.goes_on (l.at + 1) (omega arith) c.in_default.is _ c.begin-start.ensures
+    _ _ l.invariant.0.entry l.invariant.0.starts _ c.rotate.ensures _ refl refl refl
 
 pub loop-q-preserved : goal.loop-q-preserved
 loop-q-preserved c =
     let x = c.args in
-    let b = c.requires.begins in
     let l = c.loop-q in
-    let g = l.invariant.4 b.graph b.so_far b.flows b.ready in
-    let fits = room_for b.flows b.so_far x.likely x.low x.from x.start x.order.now l.seen l.reached l.order l.at l.n g in
-    let Small-one = small b.flows l.n g.block in (
-      c.mark.ensures.0,
-      c.note.ensures.reached_len,
-      search rules,
-      below_more l.order l.at l.n (l.at + 1) (omega (arith, fits, l.invariant.2)) (omega (arith, Small-one)) l.invariant.3 (omega arith),
-      grows_more x.marks.now x.weight.now x.first.now x.count.now x.to.now x.heft.now x.starts.now x.entry x.likely x.low x.from x.start x.seen.now x.reached.now x.order.now l.seen l.reached l.order l.at l.n l.invariant.4 _ _ _ (omega (arith, fits, c.requires.seen_len.3)) c.mark.ensures.1 c.note.ensures.noted refl _ c.along-next.ensures.goes_on (l.at + 1) (omega arith) _ c.in-Arm.is,
+    let k = l.invariant.0 in
+    let g = grows_more x.g.now c.requires.sound x.bar.likely x.bar.low x.from x.w.now l.w.seen l.w.reached l.w.made.order l.at l.n l.invariant.2
+    _ _ _ l.invariant.1.inside c.mark.ensures c.note.ensures.noted refl _ c.along.ensures.goes_on (l.at + 1) (omega arith) _ c.in-Some.is in (
+      record { entry = k.entry; starts = k.starts; ends = k.ends; len = k.len; order_sized = length-set l.w.made.order l.at l.n ∙ k.order_sized },
+      grows_on x.g.now c.requires.sound x.bar.likely x.bar.low x.from x.w.now c.requires.adds _ _ _ _ _ g,
+      g,
     )

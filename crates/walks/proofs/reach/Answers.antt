@@ -1,18 +1,18 @@
 -- `walks::reach` meets its contract.
-use Rattle.walks.proofs.RootLaws.{counts_nothing, reach_none, enters_begins, reach_visit}
+use Rattle.std.proofs.Common.{sym, ◌∙◌}
+use Rattle.rules.proofs.PlainVisit.{nothing}
+use Rattle.rules.proofs.Wholeness.{entry_in}
+use Rattle.records.specs.Tables.{tabled}
+use Rattle.walks.proofs.RootLaws.{entered_none, entered_some}
 use Rattle.walks.proofs.reach.Goals as goal
 
-pub returns-then-from-ge-BLOCKS : goal.returns-then-from-ge-BLOCKS
-returns-then-from-ge-BLOCKS c =
-    let x = c.args in
-    let e = c.requires.seen_len in record { counts = counts_nothing x.seen.now x.done.now e.2 e.0 e.1; reaches = reach_none x.first.now x.count.now x.to.now x.from x.seen.now x.done.now e.2 c.if-from-ge-BLOCKS.true }
+pub returns-in_default : goal.returns-in_default
+returns-in_default c = (c.requires.1, entered_none (tabled c.args.g.now) (sym c.entry.ensures ∙ c.in_default.is) c.requires.2)
 
 pub visit-requires : goal.visit-requires
-visit-requires c =
-    let x = c.args in
-    let e = c.requires.seen_len in record { begins = enters_begins x.first.now x.count.now x.to.now x.from c.if-from-ge-BLOCKS.false c.requires.enters; counts = counts_nothing x.seen.now x.done.now e.2 e.0 e.1 }
+visit-requires c = (c.requires.0, entry_in (tabled c.args.g.now) c.in-Some.entry (sym c.entry.ensures ∙ c.in-Some.is), c.requires.1)
 
 pub returns : goal.returns
 returns c =
-    let x = c.args in
-    let e = c.requires.seen_len in record { counts = c.visit.ensures.counts_2; reaches = reach_visit x.first.now x.count.now x.to.now x.from x.seen.now x.done.now _ _ _ e.2 c.if-from-ge-BLOCKS.false c.visit.ensures.visits }
+    let n = c.in-Some in
+    (c.visit.ensures.0, entered_some (tabled c.args.g.now) n.entry (sym c.entry.ensures ∙ n.is) (c.visit.ensures.1 nothing c.requires.2))

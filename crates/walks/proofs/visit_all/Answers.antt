@@ -1,40 +1,27 @@
--- `walks::visit_all` meets its contract: while it runs, the tables show the walk from the first i listed blocks.
-use Prim.Native.Nat.{◌<◌}
-use native.Mathlib.Omega.{arith}
-use mathlib.Core.Path.{◌≡◌, subst}
-use lib.ListN.{length}
-use Rattle.walks.proofs.RootLaws.{counts_nothing, AllUpTo, all_start, root_begins, all_more}
+-- `walks::visit_all` meets its contract.
+use Rattle.rules.specs.Lists.{foldl}
+use Rattle.records.specs.Tables.{tabled}
+use Rattle.walks.proofs.GraphLaws.{numbers}
+use Rattle.walks.proofs.RootLaws.{root_in, visited_more, visited_end}
 use Rattle.walks.proofs.visit_all.Goals as goal
 
-pub loop-i-init : goal.loop-i-init
-loop-i-init c =
-    let x = c.args in
-    let e = c.requires.seen_len in (
-      omega arith,
-      counts_nothing x.seen.now x.done.now e.2 e.0 e.1,
-      all_start x.first.now x.count.now x.to.now x.listed.now x.n x.seen.now x.done.now e.2,
-    )
+pub loop-n-init : goal.loop-n-init
+unfolding foldl
+loop-n-init c = (c.requires.1, c.requires.2)
 
-pub visit-at-requires : goal.visit-at-requires
-visit-at-requires c =
-    let x = c.args in
-    let l = c.loop-i in
-    record { begins = root_begins x.first.now x.count.now x.to.now x.listed.now x.n l.i c.loop-i-test.true c.requires.n_le_blocks.2; counts = l.invariant.1 }
+pub visit-requires : goal.visit-requires
+visit-requires c =
+    let t = c.args.g.now in
+    (c.requires.0, root_in (tabled t) _ (numbers t c.requires.0) c.loop-n.n-index c.loop-n-test.true, c.loop-n.invariant.0)
 
-pub loop-i-preserved : goal.loop-i-preserved
-loop-i-preserved c =
-    let x = c.args in
-    let l = c.loop-i in
-    let h = c.loop-i-test.true in
-    let k : l.i < length x.listed.now = omega (arith, h, c.requires.n_le_blocks) in (
-      omega (arith, h),
-      c.visit-at.ensures.counts_2,
-      all_more x.first.now x.count.now x.to.now x.listed.now x.n l.seen l.done _ _ l.at _ l.i h k l.invariant.2 c.visit-at.ensures.visits,
-    )
+pub loop-n-preserved : goal.loop-n-preserved
+loop-n-preserved c =
+    let t = c.args.g.now in
+    let l = c.loop-n in
+    (c.visit.ensures.0, visited_more (tabled t) _ (numbers t c.requires.0) l.n-index c.visit.new.w c.loop-n-test.true l.invariant.1 c.visit.ensures.1)
 
 pub returns : goal.returns
 returns c =
-    let x = c.args in
-    let l = c.loop-i in
-    let e : l.i ≡ x.n = omega (arith, l.invariant.0, c.loop-i-test.false) in
-    record { counts = l.invariant.1; visits_all = subst (AllUpTo x.first.now x.count.now x.to.now x.listed.now x.n l.seen l.done l.at) e l.invariant.2 }
+    let t = c.args.g.now in
+    let l = c.loop-n in
+    (l.invariant.0, visited_end (tabled t) _ (numbers t c.requires.0) l.n-index c.loop-n-test.false l.invariant.1)

@@ -1,11 +1,13 @@
--- `walks::visit_all` meets its contract: while it runs, the tables show the walk from the first i listed blocks.
-use Prim.Native.Nat.{◌-◌, ◌≤◌}
-use Rattle.walks.specs.Walking.{Counts}
-use Rattle.walks.proofs.RootLaws.{AllUpTo}
+-- `walks::visit_all` meets its contract: while it runs, the walk from the first listed blocks is shown.
+use Rattle.std.proofs.Common.{length, take}
+use Rattle.rules.specs.Lists.{foldl}
+use Rattle.rules.specs.PlainOrder.{visit}
+use Rattle.rules.proofs.PlainVisit.{nothing}
+use Rattle.records.specs.Tables.{tabled}
+use Rattle.walks.specs.Walking.{Counted, Shows}
 use Rattle.walks.proofs.visit_all.Given as goal
 
-abbrev pub invariant-loop-i : goal.invariant-loop-i
-invariant-loop-i l = (l.i ≤ l.n) × Counts l.seen l.done l.at × AllUpTo l.first l.count l.to l.listed l.n l.seen l.done l.at l.i
-
-abbrev pub decreases-loop-i : goal.decreases-loop-i
-decreases-loop-i l = l.n - l.i
+abbrev pub invariant-loop-n : goal.invariant-loop-n
+invariant-loop-n l =
+    let g = tabled l.g in
+    Counted 0 l.w × Shows (foldl (visit g (length g)) nothing (take l.n-index (take l.g.blocks l.g.b.listed))) l.w

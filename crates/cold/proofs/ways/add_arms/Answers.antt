@@ -1,54 +1,39 @@
--- `ways::add_arms` meets its contract: while it runs, the first j arms are counted.
-use Prim.Native.Nat.{ℕ, ◌+◌, ◌≤◌}
-use native.Mathlib.Omega.{arith}
-use mathlib.Core.Path.{◌≡◌, sym, subst}
-use lib.ListN.{get_or}
-use Rattle.cold.specs.Ways.{most_count, toward, Added}
-use Rattle.cold.proofs.WayLaws.{toward_in, add_none, add_room, add_more}
-use borrow.Author.Rules.{rules}
+-- `ways::add_arms` meets its contract: while it runs, the first arms are counted.
+use Rattle.std.proofs.Common.{ℕ, ◌≡◌, ◌+◌, ◌-◌, ◌∙◌, arith, take, drop, take_all, subst, List, rules}
+use Rattle.cold.specs.Ways.{outs, Added}
+use Rattle.cold.proofs.WayLaws.{add_none, add_room, add_more, outs_are, outs_below, outs_room}
 use Rattle.cold.proofs.ways.add_arms.Goals as goal
 
-pub loop-j-init : goal.loop-j-init
-loop-j-init c = (search rules, add_none c.args.to.now c.args.first c.args.table.now)
+pub loop-to-init : goal.loop-to-init
+loop-to-init c =
+    let f = c.first_of-first.result in
+    add_none (take (f + c.count_of.result - f) (drop f c.args.a.now.to)) c.args.table.now
 
-pub offset_bounds-table-k : goal.offset_bounds-table-k
-offset_bounds-table-k c =
-    let x = c.args in
-    omega (arith, c.wide-k.ensures, c.requires.count_bound.2 _ (toward_in x.to.now x.first c.loop-j.j x.count (omega arith)))
-
-pub bounds-table-k : goal.bounds-table-k
-bounds-table-k c =
-    let x = c.args in
-    omega (arith, c.wide-k.ensures, c.requires.count_bound.2 _ (toward_in x.to.now x.first c.loop-j.j x.count (omega arith)))
+pub bounds-table-to : goal.bounds-table-to
+bounds-table-to c = outs_below _ _ _ _ c.first_of-first.ensures c.count_of.ensures _ c.requires _ c.loop-to-test.true
 
 pub overflow_add-table : goal.overflow_add-table
 overflow_add-table c =
-    let x = c.args in
-    let l = c.loop-j in
-    let room = add_room x.to.now x.first l.j x.table.now l.table l.invariant.1 x.count (omega arith) c.requires.by_index in
-    omega (arith, subst (λ (k : ℕ). get_or l.table k 0 + 1 ≤ most_count) (sym c.wide-k.ensures) room)
+    omega (
+      arith,
+      add_room _ _ _ _ c.loop-to.invariant c.loop-to-test.true
+          (outs_room _ _ _ _ c.first_of-first.ensures c.count_of.ensures _ c.requires),
+    )
 
-pub offset_bounds-table-k-in-loop-j : goal.offset_bounds-table-k-in-loop-j
-offset_bounds-table-k-in-loop-j c =
-    let x = c.args in
-    omega (arith, c.wide-k.ensures, c.requires.count_bound.2 _ (toward_in x.to.now x.first c.loop-j.j x.count (omega arith)))
+pub bounds-table-to-in-loop-to : goal.bounds-table-to-in-loop-to
+bounds-table-to-in-loop-to c = outs_below _ _ _ _ c.first_of-first.ensures c.count_of.ensures _ c.requires _ c.loop-to-test.true
 
-pub bounds-table-k-in-loop-j : goal.bounds-table-k-in-loop-j
-bounds-table-k-in-loop-j c =
-    let x = c.args in
-    omega (arith, c.wide-k.ensures, c.requires.count_bound.2 _ (toward_in x.to.now x.first c.loop-j.j x.count (omega arith)))
-
-pub loop-j-preserved : goal.loop-j-preserved
-loop-j-preserved c =
-    let x = c.args in
-    let l = c.loop-j in
-    let p = c.requires in
-    let small = p.count_bound.2 _ (toward_in x.to.now x.first l.j x.count (omega arith)) in
-    (search rules, rw c.wide-k.ensures (add_more x.to.now x.first l.j x.table.now l.table l.invariant.1 (omega (arith, small, l.invariant.1.sized, p.count_bound.1))))
+pub loop-to-preserved : goal.loop-to-preserved
+loop-to-preserved c =
+    let below = outs_below _ _ _ _ c.first_of-first.ensures c.count_of.ensures _ c.requires _ c.loop-to-test.true in
+    add_more _ _ _ _ c.loop-to.invariant c.loop-to-test.true (search rules)
 
 pub returns : goal.returns
 returns c =
-    let l = c.loop-j in
     let x = c.args in
-    let e : l.j ≡ x.count = omega (arith, l.invariant.0) in
-    subst (λ (j : ℕ). Added (toward x.to.now x.first j) x.table.now l.table) e l.invariant.1
+    let l = c.loop-to in
+    let f = c.first_of-first.result in
+    let n = c.count_of.result in
+    let all : take l.to-index (take (f + n - f) (drop f x.a.now.to)) ≡ outs x.a.now x.k =
+    take_all l.to-index (take (f + n - f) (drop f x.a.now.to)) c.loop-to-test.false ∙ outs_are x.a.now x.k f n c.first_of-first.ensures c.count_of.ensures in
+    subst (λ (s : List ℕ). Added s x.table.now l.table) all l.invariant

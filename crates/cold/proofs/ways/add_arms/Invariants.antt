@@ -1,10 +1,7 @@
--- `ways::add_arms` meets its contract: while it runs, the first j arms are counted.
-use Prim.Native.Nat.{◌-◌, ◌≤◌}
-use Rattle.cold.specs.Ways.{toward, Added}
+-- `ways::add_arms` meets its contract: while it runs, the first arms are counted.
+use lib.ListN.{take}
+use Rattle.cold.specs.Ways.{Added}
 use Rattle.cold.proofs.ways.add_arms.Given as goal
 
-abbrev pub invariant-loop-j : goal.invariant-loop-j
-invariant-loop-j l = (l.j ≤ l.count) × Added (toward l.to l.first l.j) l.initial.table l.table
-
-abbrev pub decreases-loop-j : goal.decreases-loop-j
-decreases-loop-j l = l.count - l.j
+abbrev pub invariant-loop-to : goal.invariant-loop-to
+invariant-loop-to l = Added (take l.to-index l.to-items) l.initial.table l.table

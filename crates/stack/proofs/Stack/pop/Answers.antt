@@ -1,7 +1,12 @@
--- `Stack::pop` meets its contract: the entry is that of `pop_says`.
-use Rattle.std.proofs.Common.{refl}
-use Rattle.stack.proofs.FrameLaws.{pop_says}
+-- `Stack::pop` meets its contract.
+use Rattle.std.proofs.Common.{sym, ◌∙◌, arith}
+use Rattle.stack.proofs.FrameLaws.{frames_none, frames_top}
 use Rattle.stack.proofs.Stack.pop.Goals as goal
 
+pub returns-then-len-eq0 : goal.returns-then-len-eq0
+returns-then-len-eq0 c =
+    let none = sym c.self.view_is ∙ frames_none _ _ c.if-len-eq0.true in
+    (none, frames_none _ _ c.if-len-eq0.true)
+
 pub returns : goal.returns
-returns c = pop_says c.args.self _ _ _ _ _ c.requires.0 c.entry_at-e.ensures refl
+returns c = sym c.self.view_is ∙ frames_top _ _ (omega (arith, c.if-len-eq0.false))
