@@ -13,7 +13,6 @@ use lib.Dec.{eqb}
 use lib.ListN.{length, get_or, set, take, drop, length-append, take-append-drop}
 use lib.Seq.{take-suc, take-suc-set}
 use borrow.Author.Tests.{eq-eqb, eqb-false}
-use Rattle.limits.specs.Limits.{numbers, most_arms}
 use Rattle.rules.specs.Lists.{pick, keep, any}
 use Rattle.rules.specs.Graph as graph
 use Rattle.rules.specs.Graph.{bit, is_cold, cold_at, numbers_of, entry}
@@ -25,7 +24,7 @@ use Rattle.records.specs.declared.Blocks.{Blocks}
 use Rattle.records.specs.declared.Arms.{Arms}
 use Rattle.records.specs.declared.Graph.{Graph}
 use Rattle.records.specs.declared.Order.{Order}
-use Rattle.records.specs.Tables.{block_at, up_to, tabled, in_order, Stands}
+use Rattle.records.specs.Tables.{block_at, up_to, tabled, in_order}
 use Rattle.records.proofs.StandLaws.{find_in}
 use Rattle.cold.specs.Sides.{any_cold, on_side, Gathered, Within}
 
@@ -74,11 +73,11 @@ module _ (t : Graph) where
   unfolding tabled
   any_cold_lem few = any_is t.b t.a t.blocks few
 
-  module _ (s : Stands numbers most_arms t (tabled t)) where
+  module _ (few : t.blocks ≤ length t.b.listed) where
     splits_lem : (o : Option ℕ) → entry (tabled t) ≡ o → splits (tabled t) ≡ elim o as (λ (x : Option ℕ). Bool) [ None ↦ false | Some e ↦ not (is_cold (get_or t.b.marks e 0)) && any_cold t ]
     unfolding splits warm_entry
     splits_lem None q = rw (q, warm_entry) refl
-    splits_lem (Some e) q = rw (q, warm_entry) (rw (cold_at_lem e (entry_in (tabled t) e q), any_cold_lem (omega (arith, s.few, s.blocks_sized.listed))) refl)
+    splits_lem (Some e) q = rw (q, warm_entry) (rw (cold_at_lem e (entry_in (tabled t) e q), any_cold_lem few) refl)
 
     pub splits_are : (o : Option ℕ) → o ≡ entry (tabled t)
         → elim o as (λ (x : Option ℕ). Option ℕ) [ None ↦ None | Some e ↦ cond (not (is_cold (get_or t.b.marks e 0)) && any_cold t) (Some e) None ] ≡ pick (splits (tabled t)) (entry (tabled t)) None

@@ -2,14 +2,14 @@
 use Rattle.std.specs.Prelude.{ℕ, ◌+◌, ◌≤◌, ◌≡◌, Bool, List, ◌++◌, length, get_or, take, None, Some}
 use Rattle.std.specs.List.{list_any}
 use Rattle.std.proofs.Math.Bool.{beq}
-use Rattle.limits.specs.Limits.{numbers, most_arms, blocks}
+use Rattle.limits.specs.Limits.{blocks}
 use Rattle.rules.specs.Lists.{pick, keep}
 use Rattle.rules.specs.Graph.{is_cold, numbers_of}
 use Rattle.rules.specs.Split.{splits, warm_part, partition}
 use Rattle.rules.proofs.Membership.{In}
 use Rattle.records.specs.declared.Graph.{Graph}
 use Rattle.records.specs.declared.Order.{Order}
-use Rattle.records.specs.Tables.{tabled, in_order, Stands}
+use Rattle.records.specs.Tables.{tabled, in_order}
 use Rattle.cold.specs.declared.Parts.{Parts}
 
 -- one of the blocks is cold
@@ -30,9 +30,14 @@ pub record Gathered (l : List ℕ) (before after : Order) : Type 0 where
 abbrev pub Within : Graph → Order → Type 0
 Within t o = (k : ℕ) → In k (in_order o) → In k (numbers_of (tabled t))
 
--- the tables are in order, and the order is of their blocks
+-- no more blocks than the tables have room for (the check knows an array's length only where it is read)
+pub record Roomy (t : Graph) : Type 0 where
+  pub few : t.blocks ≤ blocks
+  pub sized : length t.b.listed ≡ blocks
+
+-- and the order is of them
 pub record Divides (t : Graph) (o : Order) : Type 0 where
-  pub stands : Stands numbers most_arms t (tabled t)
+  pub roomy : Roomy t
   pub within : Within t o
   pub fits : o.len ≤ blocks
 

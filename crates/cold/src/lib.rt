@@ -11,7 +11,7 @@ ghost use Rattle.rules.specs.Lists.{pick};
 ghost use Rattle.rules.specs.Graph.{is_cold, entry};
 ghost use Rattle.rules.specs.Split.{splits};
 ghost use Rattle.records.specs.Tables.{tabled, in_order, Stands, Sound};
-ghost use Rattle.cold.specs.Sides.{any_cold, on_side, Gathered, Divides, Parted};
+ghost use Rattle.cold.specs.Sides.{any_cold, on_side, Gathered, Roomy, Divides, Parted};
 ghost use Rattle.cold.specs.Sweeps.{joining, Chills, Chilled, Sweeps, Swept, Settled};
 ghost use Rattle.cold.specs.Spreading.{SpreadTo};
 
@@ -45,7 +45,7 @@ fn any_cold(g: &Graph) -> bool
 
 // The entry of a graph that is split: it is warm, and some block is cold.
 fn splits(g: &Graph) -> Option<u16>
-    requires { Stands numbers most_arms g.now (tabled g.now) }
+    requires { Roomy g.now }
     ensures { result ≡ pick (splits (tabled g.now)) (entry (tabled g.now)) None }
 {
     g.entry()

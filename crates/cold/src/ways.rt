@@ -6,6 +6,7 @@ use crate::is_cold;
 use limits::BLOCKS;
 use records::{Arms, Graph};
 
+// Two counts side by side, as request 106 names the form.
 #[derive(Drop)]
 pub struct Ways {
     pub ins: [u16; BLOCKS],

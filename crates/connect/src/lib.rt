@@ -17,7 +17,7 @@ use marks::Set;
 use records::{Graph, Order};
 
 // Traces as they are found: the first `len`, of which each begins where the one before it ends, and trace k ends before
-// place `ends[k]` of the order.
+// place `ends[k]` of the order. The tables have a length beside them, since no heap is used.
 #[derive(Drop)]
 pub struct Traces {
     pub order: [u16; BLOCKS],

@@ -24,7 +24,8 @@ struct Way {
     next: Option<u16>,
 }
 
-// The arms into each block, as lists through the first `len` ways: `head` has by block number where its list starts.
+// The arms into each block, as lists through the first `len` ways: `head` has by block number where its list starts. No heap
+// is used, so the lists go through one table.
 #[derive(Drop)]
 struct Inward {
     head: [Option<u16>; BLOCKS],

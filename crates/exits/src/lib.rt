@@ -109,7 +109,7 @@ fn digit(end: u8, how: Leaving) -> u8
     }
 }
 
-// Arm j of the c arms from arm f on goes to the next block. No slice of them: it would be made twice, for arms 0 and 1.
+// Arm j of the c arms from arm f on goes to the next block.
 #[tactic(auto, unfolding(crate::specs::Lays::goes_to, rules::specs::Graph::names))]
 fn goes(to: &[u16; ARMS], f: usize, c: usize, j: usize, next: Option<u16>) -> bool
     requires { f + c ≤ arms }

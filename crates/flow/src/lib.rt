@@ -1,2 +1,2 @@
-// What the passes that go by weights ask of a graph: definitions alone (specs/).
+// Definitions alone (specs/): what the passes that go by weights say of blocks, sets and a chosen arm.
 #![tactic(auto)]

@@ -300,7 +300,7 @@ module _ {t s : Graph} (r : Ready t) (sp : SpreadTo t s) where
     pub can_divide : Divides s o
     can_divide =
         record {
-          stands = stands_own sp.stands;
+          roomy = record { few = omega (arith, sp.stands.few); sized = sp.stands.blocks_sized.listed };
           within = order_in t s sp.stands r.sound.whole r.total reorder o os.0 os.1;
           fits = omega (arith, os.1, sp.stands.few);
         }

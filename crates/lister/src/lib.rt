@@ -31,7 +31,7 @@ pub fn list(input: &[u8], out: &mut [u8]) -> usize
 {
     let mut g = Graph::empty();
     if let Err(r) = reader::read(input, &mut g) {
-        return listing::refused(r, out);
+        return listing::refused(u64::from(r.fault), r.place as u64, out);
     }
     layout::forwarded(true, &mut g);
     let mut laid = Laid::empty();

@@ -5,7 +5,6 @@ pub mod text;
 
 ghost use Rattle.std.specs.Prelude.{◌≡◌, ℕ, ◌+◌, ◌*◌, ◌≤◌, ◌<◌, length, get_or};
 ghost use Rattle.limits.specs.Limits.{blocks, line_room, last_room, text_room};
-ghost use Rattle.rules.specs.Faults.{said};
 ghost use Rattle.rules.specs.Listing.{refusal_line};
 ghost use Rattle.listing.specs.Put.{Put};
 ghost use Rattle.listing.specs.Lines.{front_of, back_of, lines_to, last_line, Printable, Printed, Prints};
@@ -15,7 +14,6 @@ use exits::Laid;
 use limits::{BLOCKS, NUMBERS};
 use marks::Set;
 use records::Graph;
-use rules::Refusal;
 use text::{NEWLINE, SPACE, Text};
 
 // Whether another block of the graph is of block m's piece.
@@ -113,16 +111,16 @@ pub fn write(l: &Laid, heads: &Set, loops: &Set, out: &mut [u8]) -> usize
     text.len
 }
 
-// The line of a refusal, at the front of the room; the rest stays.
+// The line of a refusal, at the front of the room; the rest stays. It takes any two numbers, as it promises.
 #[tactic(auto, using(crate::proofs::LineLaws::words_fit))]
-pub fn refused(r: Refusal, out: &mut [u8]) -> usize
+pub fn refused(number: u64, place: u64, out: &mut [u8]) -> usize
     requires { text_room ≤ length out.old }
-    ensures { Printed (refusal_line (said r)) out.old out.new result }
+    ensures { Printed (refusal_line (record { number = number; place = place })) out.old out.new result }
 {
     let mut text = Text { out, len: 0 };
     text.put_word(b"refused ");
-    text.put_number(u64::from(r.fault), SPACE);
+    text.put_number(number, SPACE);
     text.put_word(b"at ");
-    text.put_number(r.place as u64, NEWLINE);
+    text.put_number(place, NEWLINE);
     text.len
 }

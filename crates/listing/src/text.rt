@@ -11,6 +11,7 @@ pub const NEWLINE: u8 = 10;
 // A number has at most this many digits.
 const DIGITS: usize = 20;
 
+// The bytes are lent and there is no heap: so the length stands beside them.
 #[derive(Drop)]
 pub struct Text<'a> {
     pub out: &'a mut [u8],

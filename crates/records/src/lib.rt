@@ -12,7 +12,7 @@ use limits::{ARMS, BLOCKS};
 
 // The blocks by number: where each is listed, counted from 1 (0: not listed, as place_of of the rules counts), and what its
 // record says.
-// `listed` has the numbers by listed place.
+// `listed` has the numbers by listed place. Tables side by side, of a fixed length and filled at once, are document 01's form.
 #[derive(Drop)]
 pub struct Blocks {
     pub place: [u16; BLOCKS],
@@ -49,7 +49,7 @@ impl Blocks {
     }
 }
 
-// The arms in file order, and by block number the first that leaves it and how many do.
+// The arms in file order, and by block number the first that leaves it and how many do: tables side by side, as for blocks.
 #[derive(Drop)]
 pub struct Arms {
     pub first: [u16; BLOCKS],
@@ -127,7 +127,7 @@ impl Graph {
     }
 }
 
-// An order of blocks: the first `len` numbers.
+// An order of blocks: the first `len` numbers. The length stands beside its table, since no heap is used.
 #[derive(Drop)]
 pub struct Order {
     pub block: [u16; BLOCKS],

@@ -3,7 +3,7 @@
 // four fifths of its target's weight: a loop that is seldom gone round stays as it is.
 #![tactic(auto)]
 
-ghost use Rattle.std.specs.Prelude.{◌≡◌, [], ◌∷◌, ℕ, ◌<◌, ◌==◌, get_or, Some, None, position};
+ghost use Rattle.std.specs.Prelude.{length, ◌≡◌, [], ◌∷◌, ℕ, ◌<◌, ◌==◌, get_or, Some, None, position};
 ghost use Rattle.std.specs.Option.{IfSome, option_map};
 ghost use Rattle.std.specs.List.{list_any};
 ghost use Rattle.limits.specs.Limits.{blocks, arms};
@@ -187,7 +187,8 @@ fn best_exit(a: &Arms, seen: &Set, starts: &Set, inside: &Set, part: &[u16]) -> 
 pub fn rotate(g: &Graph, seen: &Set, starts: &Set, entry: Option<u16>, trace: &mut [u16])
     requires arms { ArmsWithin g.now.a arms }
     requires below { Below trace.old }
-    ensures { Rotated g.now seen.now starts.now entry trace.old trace.new }
+    ensures len { length trace.new ≡ length trace.old }
+    ensures rotated { Rotated g.now seen.now starts.now entry trace.old trace.new }
 {
     let Some(p) = turning_place(g, entry, trace) else {
         return;

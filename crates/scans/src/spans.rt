@@ -15,7 +15,8 @@ pub const SPAN: usize = 16;
 pub const SPANS: usize = BLOCKS / SPAN;
 
 // The first `count` spans of an order: the span of each block by its number; the blocks that are left, each span's at
-// its places and up to where `upto` says; and what is known of each span: nothing, or the start that it has, if any.
+// its places and up to where `upto` says; and what is known of each span: nothing, or the start that it has, if any. No heap
+// is used, so `left` has the spans one after the other.
 #[derive(Drop)]
 pub struct Spans {
     pub span: [u16; BLOCKS],

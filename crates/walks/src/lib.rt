@@ -18,13 +18,13 @@ use stack::{Frame, Popped, Room, Stack};
 
 // What a walk has seen, and what it has finished, the last last.
 #[derive(Drop)]
-pub struct Walk {
-    pub seen: Set,
-    pub done: Order,
+struct Walk {
+    seen: Set,
+    done: Order,
 }
 
 impl Walk {
-    pub fn new() -> Self
+    fn new() -> Self
         ensures { Counted 0 result × Shows nothing result }
     {
         Walk {
@@ -61,7 +61,7 @@ fn leads_to(g: &Graph, f: Frame) -> Option<u16>
 
 // The walk from one block, which does nothing where that is marked: a removal from the stack for each arm and for each
 // block that is finished.
-pub fn visit(g: &Graph, root: u16, room: &mut Room, w: &mut Walk)
+fn visit(g: &Graph, root: u16, room: &mut Room, w: &mut Walk)
     requires { Fitting g.now × In root (numbers_of (tabled g.now)) × Counted 0 w.old }
     ensures { Counted 0 w.new × Visits (tabled g.now) root w.old w.new }
 {

@@ -10,7 +10,7 @@ pub read-requires : goal.read-requires
 read-requires c = none_read c.empty-g.ensures
 
 pub returns-in-Err : goal.returns-in-Err
-returns-in-Err c = list_refused c.args.input.now _ _ c.read.ensures c.in-Err.r c.in-Err.is _ _ _ c.refused.ensures
+returns-in-Err c = list_refused c.args.input.now _ _ c.read.ensures c.in-Err.r c.in-Err.is _ _ _ (rw c.from.ensures at c.refused.ensures)
 
 pub forwarded-requires : goal.forwarded-requires
 forwarded-requires c = let s = c.args.input.now in can_forward s s true true _ _ c.read.ensures _ c.in_default.is

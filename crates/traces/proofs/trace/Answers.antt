@@ -52,7 +52,7 @@ returns-in_default-clause-turned c =
     let l = c.loop-q in
     grows_turned x.g.now c.requires.sound x.bar.likely x.bar.low x.from x.w.now l.w.seen l.w.reached l.w.made.order l.at l.n l.invariant.2
     _ _ _ l.invariant.1.inside c.mark.ensures c.note.ensures.noted refl _ c.along.ensures.goes_on (l.at + 1) (omega arith) c.in_default.is _ c.begin-start.ensures
-    _ _ l.invariant.0.entry l.invariant.0.starts _ c.rotate.ensures _ refl refl refl
+    _ _ l.invariant.0.entry l.invariant.0.starts _ c.rotate.ensures.rotated _ refl refl refl
 
 pub loop-q-preserved : goal.loop-q-preserved
 loop-q-preserved c =
