@@ -46,7 +46,8 @@ pub struct Exit {
     pub how: Leaving,
 }
 
-// Where it goes is in a register: ends 3 and 4.
+// Where it goes is in a register: ends 3 and 4. Ends are numbers here and below, since `indirect`, `edges` and `exit_of` of the
+// rules compare them.
 #[tactic(auto, unfolding(rules::specs::Exits::indirect))]
 fn leaves_indirectly(end: u8) -> bool
     ensures { result ≡ indirect end }

@@ -32,7 +32,8 @@ fn plain_marks(marks: u8) -> bool
 // Where arms to a block may go instead, by its number.
 type Onward = [Option<u16>; BLOCKS];
 
-// Whether a block is a way through: no instruction, and one arm without arguments.
+// Whether a block is a way through: no instruction, and one arm without arguments. An end and what an arm has are numbers
+// here and below, as the rules' graph has them (`through`, `ours`).
 #[tactic(auto, unfolding(crate::specs::Steps::passing))]
 fn passes(end: u8, marks: u8, count: usize, args: u8) -> bool
     ensures { result ≡ passing end marks count args }
@@ -73,6 +74,7 @@ fn leaves_at(g: &Graph, start: u16, steps: usize) -> Option<u16>
     ensures { result ≡ leaves_at (tabled g.now) steps start }
 {
     let mut at = start;
+    // The steps are only counted.
     for _left in (0..steps).rev() {
         let Some(next) = through(&g.b, &g.a, at) else {
             return Some(at);

@@ -7,7 +7,7 @@ ghost use Rattle.marks.specs.Sets.{member};
 
 use limits::BLOCKS;
 
-// The bytes that hold a set.
+// The bytes that hold a set, 0 for each number that is not in it, as `member` reads them and specs elsewhere lend them.
 pub type Set = [u8; BLOCKS];
 
 // No block is marked.

@@ -1,4 +1,4 @@
-// The marks of a block by bit, as document 01 numbers them.
+// The marks of a block by bit, as document 01 numbers them and `bit` of the rules takes them.
 ghost use Rattle.std.specs.Prelude.{◌≡◌, ◌<◌};
 ghost use Rattle.rules.specs.Graph.{bit};
 

@@ -66,6 +66,7 @@ pub fn first_next(first: u16, count: u16, j: usize) -> u16
     if count == 0 { j as u16 } else { first }
 }
 
+// By the number of the end, as `too_many` of the rules.
 #[tactic(auto, unfolding(rules::specs::Refusals::too_many))]
 pub fn too_many(end: u8, arms: usize) -> bool
     ensures { result ≡ too_many end arms }

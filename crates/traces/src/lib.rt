@@ -94,7 +94,8 @@ impl Growth {
     }
 }
 
-// The trace from a block that is not laid, behind those found, and turned as it ends. The place behind it.
+// The trace from a block that is not laid, behind those found, and turned as it ends. The place behind it: it goes up with
+// the blocks, and no count of them is known before the loop ends.
 fn trace(g: &Graph, bar: Bar, from: u16, w: &mut Growth) -> usize
     requires sound { Sound g.now }
     requires adds { Adds g.now w.old from }
