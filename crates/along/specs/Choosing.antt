@@ -1,4 +1,4 @@
--- The arm by which a trace goes on: chosen among a block's arms by the tables, and what it is by the rules.
+-- The arm by which a trace goes on: chosen among a block's arms by the tables, and what it is in every graph that has them.
 use Rattle.std.specs.Prelude.{ℕ, ◌≡◌, Bool, not, cond, ◌&&◌, List, leb, ltb, get_or, Option, None, Some}
 use Rattle.std.specs.Bool.{beq}
 use Rattle.rules.specs.Graph as graph
@@ -6,9 +6,9 @@ use Rattle.rules.specs.Graph.{is_cold}
 use Rattle.rules.specs.Weights.{share}
 use Rattle.rules.specs.Traces.{along}
 use Rattle.records.specs.declared.Graph.{Graph}
-use Rattle.records.specs.Tables.{tabled, Sound}
+use Rattle.records.specs.Tables.{tabled}
 use Rattle.marks.specs.Sets.{member}
-use Rattle.flow.specs.Lent.{Of, Marks, arm_of}
+use Rattle.flow.specs.Lent.{Flows, Of, Marks, arm_of}
 
 -- arm q fits for block n
 unfoldable pub fits_by : Graph → List ℕ → ℕ → ℕ → ℕ → ℕ → Bool
@@ -22,7 +22,7 @@ unfoldable pub heavier : List ℕ → Option ℕ → ℕ → Option ℕ
 heavier weight None q = Some q
 heavier weight (Some x) q = cond (ltb (get_or weight x 0) (get_or weight q 0)) (Some q) (Some x)
 
--- the arm that the rules choose for block n, the marked blocks being laid
+-- in every graph that has these tables and block n, the marked blocks being laid: the arm that the rules choose
 abbrev pub GoesOn : Graph → List ℕ → ℕ → ℕ → ℕ → Option ℕ → Type 0
 GoesOn g seen likely low n r =
-    Sound g → Of g n → (laid : List ℕ) → Marks seen laid → arm_of g.a r ≡ along (tabled g) laid likely low (graph.block_at (tabled g) n)
+    (t : Graph) → Flows t g → Of t n → (laid : List ℕ) → Marks seen laid → arm_of t.a r ≡ along (tabled t) laid likely low (graph.block_at (tabled t) n)

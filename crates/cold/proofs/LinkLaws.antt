@@ -19,7 +19,7 @@ use Rattle.rules.proofs.Wholeness.{Whole, block_in}
 use Rattle.records.specs.declared.Graph.{Graph}
 use Rattle.records.specs.declared.Arms.{Arms}
 use Rattle.records.specs.declared.Blocks.{Blocks}
-use Rattle.records.specs.Tables.{arm_at, arms_from, leaves, block_at, tabled, Stands}
+use Rattle.records.specs.Tables.{arm_at, arms_from, leaves, block_at, tabled, Carries}
 use Rattle.records.proofs.StandLaws.{listed_in, in_listed, in_tables, find_listed}
 use Rattle.cold.specs.Ways.{Links, links_of, outs, at, arms_to, ins, cold_sum, cold_ins, Linked}
 use Rattle.cold.proofs.WayLaws.{cold_part_lem}
@@ -99,14 +99,13 @@ module _ (t : Graph) where
   unfolding tabled
   block_is x i = in_tables t.b t.a t.blocks x i
 
-  pub linked : Stands numbers most_arms t (tabled t) → Whole (tabled t) → Linked (links_of t)
+  pub linked : Carries numbers most_arms t (tabled t) → Whole (tabled t) → Linked (links_of t)
   linked s whole =
       record {
         sized = s.arms_sized.to;
         few = s.few;
         below = λ i l. omega (arith, s.below i l);
-        once =
-            λ i j l u e. let q : suc i ≡ suc j = sym (s.back i l) ∙ ap (λ (k : ℕ). get_or t.b.place k 0) e ∙ s.back j u in omega (arith, q);
+        once = s.once;
         fits = s.fits;
         goes =
             λ i l k o.

@@ -20,7 +20,7 @@ use Rattle.rules.proofs.Membership.{In, keep→, map-In, mem→, T→≡, map_ap
 use Rattle.rules.proofs.SpreadLeast.{Shut, spread_closed, spread_least, spread_none}
 use Rattle.rules.proofs.SpreadMarks.{cold_stays}
 use Rattle.records.specs.declared.Graph.{Graph}
-use Rattle.records.specs.Tables.{block_at, up_to, tabled, Stands, Sound}
+use Rattle.records.specs.Tables.{block_at, up_to, tabled, Carries, Sound}
 use Rattle.cold.specs.Ways.{links_of, at, arms_to, ins, cold_ins, Linked}
 use Rattle.cold.specs.Sweeps.{with_marks, joining, joins_at, cooled, Cools, Settled}
 use Rattle.cold.specs.Sweeps.Cools.{still, next}
@@ -83,25 +83,29 @@ module _ (t : Graph) (m : List ℕ) (kept : (k : ℕ) → Kept (get_or t.b.marks
       (chilled_is (cold_set (tabled t)) (block_at t.b t.a (at (links_of t) p)) (get_or m (at (links_of t) p) 0) (kept (at (links_of t) p)) (set_is p (omega (arith, l))))
       ∙ sym (map_append (chilled (cold_set (tabled t))) (up_to t.b t.a p) (block_at t.b t.a (at (links_of t) p) ∷ []))
 
-  pub marked_stands : Stands numbers most_arms t (tabled t) → length m ≡ blocks
-      → Stands numbers most_arms (with_marks t m) (spread (tabled t))
+  pub marked_stands : Carries numbers most_arms t (tabled t) → length m ≡ blocks → SpreadTo t (with_marks t m)
   unfolding tabled spread
   marked_stands s z =
       record {
-        graph_is = marked_up t.blocks (omega arith);
-        few = s.few;
-        below = s.below;
-        back = s.back;
-        fits = s.fits;
-        blocks_sized =
+        stands =
             record {
-              place = s.blocks_sized.place;
-              listed = s.blocks_sized.listed;
-              marks = z;
-              ends = s.blocks_sized.ends;
-              weight = s.blocks_sized.weight;
+              graph_is = marked_up t.blocks (omega arith);
+              few = s.few;
+              below = s.below;
+              once = s.once;
+              fits = s.fits;
+              blocks_sized =
+                  record {
+                    place = s.blocks_sized.place;
+                    listed = s.blocks_sized.listed;
+                    marks = z;
+                    ends = s.blocks_sized.ends;
+                    weight = s.blocks_sized.weight;
+                  };
+              arms_sized = s.arms_sized;
             };
-        arms_sized = s.arms_sized;
+        back = λ b. b;
+        same = refl;
       }
 
 -- ---- the cold blocks are the least set
@@ -223,17 +227,9 @@ module _ (t : Graph) (sound : Sound t) where
   spread_settled e h found t' q =
       let l = linked t sound.stands sound.whole in
       let sized = sound.stands.blocks_sized.marks in
-      record {
-        stands =
-            subst (λ (x : Graph). Stands numbers most_arms x (spread (tabled t))) (sym q.same)
-            (marked_stands t t'.b.marks (cools_kept t l sized e q.turns t'.b.marks q.cools)
-            (settled_set t l sized e (rw (spreads_are (tabled t) ∙ h) tt) found t'.b.marks q.turns q.cools q.quiet) sound.stands q.sized);
-        same = q.same;
-      }
+      subst (SpreadTo t) (sym q.same)
+      (marked_stands t t'.b.marks (cools_kept t l sized e q.turns t'.b.marks q.cools)
+      (settled_set t l sized e (rw (spreads_are (tabled t) ∙ h) tt) found t'.b.marks q.turns q.cools q.quiet) sound.stands q.sized)
 
   pub spread_still : splits (tabled t) ≡ false → SpreadTo t t
-  spread_still h =
-      record {
-        stands = marked_stands t t.b.marks (λ i. inl refl) (none_set t (spreads_are (tabled t) ∙ h)) sound.stands sound.stands.blocks_sized.marks;
-        same = refl;
-      }
+  spread_still h = marked_stands t t.b.marks (λ i. inl refl) (none_set t (spreads_are (tabled t) ∙ h)) sound.stands sound.stands.blocks_sized.marks

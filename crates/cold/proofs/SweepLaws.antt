@@ -96,7 +96,7 @@ module _ (e : ℕ) (t₀ t : Graph) (h : Linked (links_of t₀)) (i : ℕ) (l : 
         adds =
             λ warm.
             record {
-              fits = h.fits (at w i);
+              fits = omega (arith, h.fits (at w i));
               goes = h.goes i l;
               room = λ n. omega (arith, s.cooling.counts.cold n, ins_cooled w h m s.cooling.sized i l warm n, cold_fit w h (cooled m (at w i)) w.blocks n (omega arith));
             };

@@ -109,7 +109,7 @@ module _ (w : Links) (h : Linked w) where
   module _ (i : ℕ) (l : i < w.blocks) where
     pub ins_adds : (table : List ℕ) → ((k : ℕ) → get_or table k 0 ≡ ins w i k) → Adds w.arms (at w i) table
     unfolding ins arms_to
-    ins_adds table t = record { fits = h.fits (at w i); goes = h.goes i l; room = λ k. omega (arith, t k, ins_fit (suc i) k l) }
+    ins_adds table t = record { fits = omega (arith, h.fits (at w i)); goes = h.goes i l; room = λ k. omega (arith, t k, ins_fit (suc i) k l) }
 
     pub ins_more : (before after : List ℕ) → ((k : ℕ) → get_or before k 0 ≡ ins w i k) → Added (outs w.arms (at w i)) before after → (k : ℕ) → get_or after k 0 ≡ ins w (i + 1) k
     unfolding ins arms_to
@@ -119,7 +119,7 @@ module _ (w : Links) (h : Linked w) where
       pub cold_adds : is_cold (get_or m (at w i) 0) ≡ true → Adds w.arms (at w i) table
       unfolding cold_ins cold_sum arms_to
       cold_adds c =
-          record { fits = h.fits (at w i); goes = h.goes i l; room = λ k. omega (arith, t k, rw c at (cold_fit m (suc i) k l)) }
+          record { fits = omega (arith, h.fits (at w i)); goes = h.goes i l; room = λ k. omega (arith, t k, rw c at (cold_fit m (suc i) k l)) }
 
       pub cold_more : (after : List ℕ) → is_cold (get_or m (at w i) 0) ≡ true → Added (outs w.arms (at w i)) table after → (k : ℕ) → get_or after k 0 ≡ cold_ins w m (i + 1) k
       unfolding cold_ins cold_sum arms_to

@@ -62,7 +62,7 @@ pub record Linked (w : Links) : Type 0 where
 
 -- what counting the arms of block b asks for: they are within the tables, and the counts fit
 pub record Adds (a : Arms) (b : ℕ) (table : List ℕ) : Type 0 where
-  pub fits : get_or a.first b 0 + get_or a.count b 0 ≤ most_arms
+  pub fits : get_or a.first b 0 + get_or a.count b 0 ≤ arms
   pub goes : (k : ℕ) → In k (outs a b) → k < blocks
   pub room : (k : ℕ) → get_or table k 0 + counting.count k (outs a b) ≤ most_count
 

@@ -6,11 +6,11 @@
 pub mod ways;
 
 ghost use Rattle.std.specs.Prelude.{◌≡◌, None, ◌+◌, ◌≤◌, length, get_or};
-ghost use Rattle.limits.specs.Limits.{numbers, most_arms, blocks};
+ghost use Rattle.limits.specs.Limits.{blocks};
 ghost use Rattle.rules.specs.Lists.{pick};
 ghost use Rattle.rules.specs.Graph.{is_cold, entry};
 ghost use Rattle.rules.specs.Split.{splits};
-ghost use Rattle.records.specs.Tables.{tabled, in_order, Stands, Sound};
+ghost use Rattle.records.specs.Tables.{tabled, in_order, Sound};
 ghost use Rattle.cold.specs.Sides.{any_cold, on_side, Gathered, Roomy, Divides, Parted};
 ghost use Rattle.cold.specs.Sweeps.{joining, Chills, Chilled, Sweeps, Swept, Settled};
 ghost use Rattle.cold.specs.Spreading.{SpreadTo};

@@ -22,10 +22,10 @@ use Rattle.rules.proofs.Membership.{In, map_append}
 use Rattle.rules.proofs.JoinEnd.{Follows, stops, goes}
 use Rattle.records.specs.declared.Graph.{Graph}
 use Rattle.records.specs.declared.Order.{Order}
-use Rattle.records.specs.Tables.{tabled, in_order, Sound}
+use Rattle.records.specs.Tables.{tabled, in_order}
 use Rattle.marks.specs.Sets.{member, size}
 use Rattle.marks.proofs.SetLaws.{eqb_turn, size_room, size_more}
-use Rattle.flow.specs.Lent.{Marks}
+use Rattle.flow.specs.Lent.{Runs, Marks}
 use Rattle.flow.proofs.PartLaws.{get_in, last_get}
 use Rattle.connect.specs.declared.Link.{Link}
 use Rattle.connect.specs.declared.Traces.{Traces}
@@ -153,11 +153,12 @@ module _ (f : Traces) (sized : length f.order ≡ blocks) (head : List (Option �
       room_for = omega (arith, more_laid, laid_most f.ends used' f.len b.joinable.rising, b.joinable.last)
 
       -- what follows it by the tables follows it by the rules
-      next_is : {g : Graph} → Sound g → AllOf g f → (x : Option Link) → BestBy g f.ends head used' last x → (l : List ℕ) → Marks used l → option_map link_in x ≡ next_trace (tabled g) (all_traces f) (at ∷ l) at
+      next_is : {t g : Graph} → Runs t g → AllOf t f → (x : Option Link) → BestBy g f.ends head used' last x → (l : List ℕ) → Marks used l
+          → option_map link_in x ≡ next_trace (tabled t) (all_traces f) (at ∷ l) at
       unfolding next_trace
-      next_is {g} k all x h l m =
-          h k (all last last_in) (all_traces f) b.heads.starts (at ∷ l) (marks_more used used' l at marked m)
-          ∙ ap (λ (n : ℕ). best looser None (links (tabled g) (all_traces f) (at ∷ l) (cold_at (tabled g) n) (graph.block_at (tabled g) n).arms)) (sym last_is)
+      next_is {t} k all x h l m =
+          h t k (all last last_in) (all_traces f) b.heads.starts (at ∷ l) (marks_more used used' l at marked m)
+          ∙ ap (λ (n : ℕ). best looser None (links (tabled t) (all_traces f) (at ∷ l) (cold_at (tabled t) n) (graph.block_at (tabled t) n).arms)) (sym last_is)
 
       -- it is laid
       module _ (o' : Order) (behind : in_order o' ≡ in_order o ++ trace) where
@@ -175,8 +176,8 @@ pub record Along (g : Graph) (f : Traces) (head : List (Option ℕ)) (used₀ : 
   pub begins : Begins f head used o at
   pub kept : (m : ℕ) → member used₀ m ≡ true → member used m ≡ true
   pub passed : (member used from ≡ true) ⊎ (at ≡ from)
-  pub left : Sound g → AllOf g f → (l v : List ℕ) → Laid (all_traces f) used₀ o₀ l → Follows (tabled g) (all_traces f) l from v →
-      (k : List ℕ) × Laid (all_traces f) used o k × Follows (tabled g) (all_traces f) k at v
+  pub left : (t : Graph) → Runs t g → AllOf t f → (l v : List ℕ) → Laid (all_traces f) used₀ o₀ l → Follows (tabled t) (all_traces f) l from v →
+      (k : List ℕ) × Laid (all_traces f) used o k × Follows (tabled t) (all_traces f) k at v
 
 or_true : (a b : Bool) → b ≡ true → a || b ≡ true
 or_true true b e = refl
@@ -184,7 +185,7 @@ or_true false b e = e
 
 module _ (g : Graph) (f : Traces) (sized : length f.order ≡ blocks) (head : List (Option ℕ)) (used₀ : List ℕ) (o₀ : Order) (from : ℕ) where
   pub along_start : Begins f head used₀ o₀ from → Along g f head used₀ o₀ from used₀ o₀ from
-  along_start b = record { begins = b; kept = λ m e. e; passed = inr refl; left = λ k all l v h f. (l, h, f) }
+  along_start b = record { begins = b; kept = λ m e. e; passed = inr refl; left = λ t k all l v h f. (l, h, f) }
 
   module _ (used : List ℕ) (o : Order) (at : ℕ) (a : Along g f head used₀ o₀ from used o at)
       (trace : List ℕ) (is : trace ≡ slice (begin_of f.ends at) (end_of f.ends at) f.order)
@@ -201,10 +202,11 @@ module _ (g : Graph) (f : Traces) (sized : length f.order ≡ blocks) (head : Li
     all_placed : Places f used' o'
     all_placed = placed f sized head used o at a.begins trace is used' marked o' behind more
 
-    step : Sound g → AllOf g f → (l v : List ℕ) → Laid (all_traces f) used₀ o₀ l → Follows (tabled g) (all_traces f) l from v →
-        (k : List ℕ) × Laid (all_traces f) used' o' (at ∷ k) × (option_map link_in x ≡ next_trace (tabled g) (all_traces f) (at ∷ k) at) × Follows (tabled g) (all_traces f) k at v
-    step k all l v i w =
-        let e = a.left k all l v i w in (
+    step : (t : Graph) → Runs t g → AllOf t f → (l v : List ℕ) → Laid (all_traces f) used₀ o₀ l → Follows (tabled t) (all_traces f) l from v →
+        (k : List ℕ) × Laid (all_traces f) used' o' (at ∷ k)
+        × (option_map link_in x ≡ next_trace (tabled t) (all_traces f) (at ∷ k) at) × Follows (tabled t) (all_traces f) k at v
+    step t k all l v i w =
+        let e = a.left t k all l v i w in (
           e.0,
           laid_too f sized head used o at a.begins trace is used' marked o' behind e.0 e.1,
           next_is f sized head used o at a.begins trace is used' marked k all x h e.0 e.1.used_are,
@@ -216,8 +218,8 @@ module _ (g : Graph) (f : Traces) (sized : length f.order ≡ blocks) (head : Li
       places = all_placed;
       laid = from_used;
       kept = keeps;
-      follows = λ k all l v i w.
-          let s = step k all l v i w in
+      follows = λ t k all l v i w.
+          let s = step t k all l v i w in
           subst (Laid (all_traces f) used' o') (stops_at s.3 (sym s.2 ∙ ap (option_map link_in) z)) s.1;
     }
 
@@ -235,6 +237,6 @@ module _ (g : Graph) (f : Traces) (sized : length f.order ≡ blocks) (head : Li
           };
           kept = keeps;
           passed = inl from_used;
-          left = λ e all l v i w.
-              let s = step e all l v i w in (at ∷ s.0, s.1, goes_on s.3 (link_in k) (sym s.2 ∙ ap (option_map link_in) z));
+          left = λ t e all l v i w.
+              let s = step t e all l v i w in (at ∷ s.0, s.1, goes_on s.3 (link_in k) (sym s.2 ∙ ap (option_map link_in) z));
         }

@@ -15,8 +15,9 @@ use Rattle.rules.specs.Graph as graph
 use Rattle.rules.proofs.JoinEnd.{Follows, Connects, over, passed, from, join_ends}
 use Rattle.records.specs.declared.Graph.{Graph}
 use Rattle.records.specs.declared.Order.{Order}
-use Rattle.records.specs.Tables.{tabled, in_order, Sound}
+use Rattle.records.specs.Tables.{tabled, in_order}
 use Rattle.marks.specs.Sets.{member}
+use Rattle.flow.specs.Lent.{Runs}
 use Rattle.connect.specs.declared.Traces.{Traces}
 use Rattle.connect.specs.Joined.{all_traces, Joinable, AllOf, JoinedBy}
 use Rattle.connect.specs.Following.{Heads, laid_of, Places, Begins, Laid, Followed}
@@ -45,8 +46,8 @@ module _ {g : graph.Graph} {ts : List (List ℕ)} where
 pub record Turn (g : Graph) (f : Traces) (used : List ℕ) (o : Order) (at : ℕ) : Type 0 where
   pub places : Places f used o
   pub before : (m : ℕ) → m < at → member used m ≡ true
-  pub left : Sound g → AllOf g f → (v : List ℕ) → Connects (tabled g) (all_traces f) [] 0 (all_traces f) v →
-      (l : List ℕ) × Laid (all_traces f) used o l × Connects (tabled g) (all_traces f) l at (drop at (all_traces f)) v
+  pub left : (t : Graph) → Runs t g → AllOf t f → (v : List ℕ) → Connects (tabled t) (all_traces f) [] 0 (all_traces f) v →
+      (l : List ℕ) × Laid (all_traces f) used o l × Connects (tabled t) (all_traces f) l at (drop at (all_traces f)) v
 
 module _ (g : Graph) (f : Traces) where
   pub turn_first : (used block : List ℕ) → ((m : ℕ) → member used m ≡ false) → Turn g f used (record { block = block; len = 0 }) 0
@@ -54,7 +55,7 @@ module _ (g : Graph) (f : Traces) where
   turn_first used block n = record {
     places = sym (laid_none f.ends used f.len n);
     before = λ m l. absurd (omega (arith, l));
-    left = λ k all v c. ([], record { used_are = n; block_is = refl }, c);
+    left = λ t k all v c. ([], record { used_are = n; block_is = refl }, c);
   }
 
   module _ (used : List ℕ) (o : Order) (at : ℕ) (l : at < f.len) (s : Turn g f used o at) where
@@ -66,8 +67,8 @@ module _ (g : Graph) (f : Traces) where
     turn_used e = record {
       places = s.places;
       before = λ m i. split_lt m at (λ j. s.before m j) (λ j. let z : m ≡ at = omega (arith, i, j) in ap (member used) z ∙ e);
-      left = λ k all v c.
-          let r = s.left k all v c in (r.0, r.1, used_next r.2 _ _ rest (sym (r.1.used_are at) ∙ e));
+      left = λ t k all v c.
+          let r = s.left t k all v c in (r.0, r.1, used_next r.2 _ _ rest (sym (r.1.used_are at) ∙ e));
     }
 
     -- it can be laid
@@ -79,19 +80,19 @@ module _ (g : Graph) (f : Traces) where
     turn_laid used' o' e w = record {
       places = w.places;
       before = λ m i. split_lt m at (λ j. w.kept m (s.before m j)) (λ j. let z : m ≡ at = omega (arith, i, j) in ap (member used') z ∙ w.laid);
-      left = λ k all v c.
-          let q = s.left k all v c in
+      left = λ t k all v c.
+          let q = s.left t k all v c in
           let n = free_next q.2 _ _ rest (sym (q.1.used_are at) ∙ e) in
-          (n.0, w.follows k all q.0 n.0 q.1 n.1, n.2);
+          (n.0, w.follows t k all q.0 n.0 q.1 n.1, n.2);
     }
 
   -- none is left
   pub turns_over : (used : List ℕ) (o : Order) (at : ℕ) → Joinable f → f.len ≤ at → Turn g f used o at → JoinedBy g f o
   unfolding laid_of
-  turns_over used o at j e s k all =
+  turns_over used o at j e s t k all =
       let ts = all_traces f in
-      let v = join_ends (tabled g) ts in
-      let r = s.left k all v.0 v.1 in
+      let v = join_ends (tabled t) ts in
+      let r = s.left t k all v.0 v.1 in
       let end : drop at ts ≡ [] = drop_of_length-le ts {i = at} (omega (arith, e, traces_many f.order f.ends f.len)) in (
         r.1.block_is ∙ ap (laid_of ts) (over_at r.2 end) ∙ sym v.2,
         s.places ∙ laid_all f.ends used f.len j.rising (λ m l. s.before m (omega (arith, l, e))),

@@ -15,10 +15,10 @@ use Rattle.rules.specs.Join as join
 use Rattle.rules.specs.Join.{looser, links}
 use Rattle.records.specs.declared.Arms.{Arms}
 use Rattle.records.specs.declared.Graph.{Graph}
-use Rattle.records.specs.Tables.{arm_at, arms_from, leaves, tabled, Sound}
+use Rattle.records.specs.Tables.{arm_at, arms_from, tabled}
 use Rattle.marks.specs.Sets.{member}
-use Rattle.flow.specs.Lent.{Of, Marks}
-use Rattle.flow.proofs.SoundLaws.{cold_is, arms_are, goes_on}
+use Rattle.flow.specs.Lent.{Runs, Of, Marks}
+use Rattle.flow.proofs.SoundLaws.{to_at, weight_at, cold_by, arms_by, goes_by}
 use Rattle.connect.specs.declared.Link.{Link}
 use Rattle.connect.specs.Joined.{begin_of, end_of}
 use Rattle.connect.specs.Links.{link_in, tighter, trace_by, leads_by, start_by, Starts, Unused, BestBy}
@@ -139,23 +139,23 @@ module _ (g : graph.Graph) (ts : List (List ℕ)) (ends : List ℕ) (head : List
       ∙ ap (λ (x : Option join.Link). best looser (tighter o x) (links g ts l cold (arms_from a (suc q) n))) (h q (omega arith) (omega arith))
       ∙ sym (link_more o (arm_at a q) (arms_from a (suc q) n))
 
--- ---- all arms of a block of a sound graph
-module _ {g : Graph} (k : Sound g) (n : ℕ) (i : Of g n) (ts : List (List ℕ)) (ends : List ℕ) (head : List (Option ℕ)) (used l : List ℕ) (s : Starts ts ends head) (m : Marks used l) where
+-- ---- all arms of a block of a graph that has the tables
+module _ {t g : Graph} (k : Runs t g) (n : ℕ) (i : Of t n) (ts : List (List ℕ)) (ends : List ℕ) (head : List (Option ℕ)) (used l : List ℕ) (s : Starts ts ends head) (m : Marks used l) where
   leads_alike : (q : ℕ) → get_or g.a.first n 0 ≤ q → q < get_or g.a.first n 0 + get_or g.a.count n 0
-      → leads_by g ends head used (is_cold (get_or g.b.marks n 0)) q ≡ arm_link (tabled g) ts ends head used l s m (is_cold (get_or g.b.marks n 0)) (arm_at g.a q)
-  unfolding leads_by arm_link arm_at
-  leads_alike q b u = rw (cold_is k (get_or g.a.to q 0) (goes_on k n i q (record { from = b; below = u }))) refl
+      → leads_by g ends head used (is_cold (get_or g.b.marks n 0)) q ≡ arm_link (tabled t) ts ends head used l s m (is_cold (get_or g.b.marks n 0)) (arm_at t.a q)
+  unfolding leads_by arm_link
+  leads_alike q b u = rw (to_at k.arms q, weight_at k.arms q, cold_by k (get_or g.a.to q 0) (goes_by k n i q (record { from = b; below = u }))) refl
 
   chosen_links : chosen (leads_by g ends head used (is_cold (get_or g.b.marks n 0))) None (get_or g.a.first n 0) (get_or g.a.count n 0)
-      ≡ best looser None (links (tabled g) ts l (cold_at (tabled g) n) (graph.block_at (tabled g) n).arms)
-  unfolding leaves
+      ≡ best looser None (links (tabled t) ts l (cold_at (tabled t) n) (graph.block_at (tabled t) n).arms)
   chosen_links =
-      chosen_best (tabled g) ts ends head used l s m (is_cold (get_or g.b.marks n 0)) g.a (leads_by g ends head used (is_cold (get_or g.b.marks n 0))) None (get_or g.a.first n 0) (get_or g.a.count n 0) leads_alike
-      ∙ rw (cold_is k n i, arms_are k n i) refl
+      chosen_best (tabled t) ts ends head used l s m (is_cold (get_or g.b.marks n 0)) t.a (leads_by g ends head used (is_cold (get_or g.b.marks n 0))) None
+      (get_or g.a.first n 0) (get_or g.a.count n 0) leads_alike
+      ∙ rw (cold_by k n i, arms_by k n i) refl
 
 module _ (g : Graph) (ends : List ℕ) (head : List (Option ℕ)) (used : List ℕ) (n : ℕ) (cold : Bool) (f c : ℕ) (is_cold_lem : cold ≡ is_cold (get_or g.b.marks n 0)) (is_first : f ≡ get_or g.a.first n 0) (is_count : c ≡ get_or g.a.count n 0) where
   pub chosen_all : (r : Option Link) → chosen (leads_by g ends head used cold) None f (f + c - f) ≡ option_map link_in r → BestBy g ends head used n r
-  chosen_all r e k i ts s l m =
+  chosen_all r e t k i ts s l m =
       let z : f + c - f ≡ c = omega arith in
       sym e ∙ rw (z, is_cold_lem, is_first, is_count) (chosen_links k n i ts ends head used l s m)
 

@@ -4,9 +4,9 @@ use Rattle.rules.specs.Lists.{concat}
 use Rattle.rules.proofs.JoinEnd.{Follows}
 use Rattle.records.specs.declared.Graph.{Graph}
 use Rattle.records.specs.declared.Order.{Order}
-use Rattle.records.specs.Tables.{tabled, in_order, Sound}
+use Rattle.records.specs.Tables.{tabled, in_order}
 use Rattle.marks.specs.Sets.{member}
-use Rattle.flow.specs.Lent.{Marks}
+use Rattle.flow.specs.Lent.{Runs, Marks}
 use Rattle.connect.specs.declared.Traces.{Traces}
 use Rattle.connect.specs.Joined.{begin_of, end_of, all_traces, Joinable, AllOf}
 use Rattle.connect.specs.Links.{Starts}
@@ -42,10 +42,10 @@ pub record Laid (ts : List (List ℕ)) (used : List ℕ) (o : Order) (l : List �
   pub used_are : Marks used l
   pub block_is : in_order o ≡ laid_of ts l
 
--- trace `from` is used and those that were, their blocks are laid; and in a sound graph that has the blocks of the traces, what
--- the rules lay when they follow on from it is laid
+-- trace `from` is used and those that were, their blocks are laid; and in every graph that has these tables and the blocks of the
+-- traces, what the rules lay when they follow on from it is laid
 pub record Followed (g : Graph) (f : Traces) (used : List ℕ) (o : Order) (from : ℕ) (used' : List ℕ) (o' : Order) : Type 0 where
   pub places : Places f used' o'
   pub laid : member used' from ≡ true
   pub kept : (m : ℕ) → member used m ≡ true → member used' m ≡ true
-  pub follows : Sound g → AllOf g f → (l v : List ℕ) → Laid (all_traces f) used o l → Follows (tabled g) (all_traces f) l from v → Laid (all_traces f) used' o' v
+  pub follows : (t : Graph) → Runs t g → AllOf t f → (l v : List ℕ) → Laid (all_traces f) used o l → Follows (tabled t) (all_traces f) l from v → Laid (all_traces f) used' o' v

@@ -1,4 +1,4 @@
--- The traces as the tables have them, and what joining them gives in a sound graph.
+-- The traces as the tables have them, and what joining them gives in every graph that has the tables.
 use Rattle.std.specs.Prelude.{ℕ, zero, suc, ◌≤◌, ◌<◌, ◌≡◌, List, [], ◌∷◌, ◌++◌, get_or, replicate, take}
 use Rattle.std.proofs.Math.Seq.{slice}
 use Rattle.limits.specs.Limits.{numbers, blocks}
@@ -7,8 +7,8 @@ use Rattle.rules.proofs.Membership.{In}
 use Rattle.rules.proofs.Counting.{Once}
 use Rattle.records.specs.declared.Graph.{Graph}
 use Rattle.records.specs.declared.Order.{Order}
-use Rattle.records.specs.Tables.{tabled, in_order, Sound}
-use Rattle.flow.specs.Lent.{Of}
+use Rattle.records.specs.Tables.{tabled, in_order}
+use Rattle.flow.specs.Lent.{Runs, Of}
 use Rattle.connect.specs.declared.Traces.{Traces}
 
 -- no trace
@@ -54,6 +54,6 @@ pub record Joinable (f : Traces) : Type 0 where
 abbrev pub AllOf : Graph → Traces → Type 0
 AllOf g f = (n : ℕ) → In n (all_blocks f) → Of g n
 
--- the traces as the rules join them
+-- in every graph that has these tables and the blocks of these traces: the traces as the rules join them
 abbrev pub JoinedBy : Graph → Traces → Order → Type 0
-JoinedBy g f r = Sound g → AllOf g f → (in_order r ≡ connect (tabled g) (all_traces f)) × (r.len ≡ begin_of f.ends f.len)
+JoinedBy g f r = (t : Graph) → Runs t g → AllOf t f → (in_order r ≡ connect (tabled t) (all_traces f)) × (r.len ≡ begin_of f.ends f.len)

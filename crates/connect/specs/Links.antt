@@ -1,4 +1,4 @@
--- The trace that follows by the tables, and what it is in a sound graph.
+-- The trace that follows by the tables, and what it is in every graph that has them.
 use Rattle.std.specs.Prelude.{ℕ, ◌-◌, ◌≡◌, Bool, false, not, cond, ◌&&◌, List, get_or, Option, None, Some}
 use Rattle.std.specs.Bool.{beq}
 use Rattle.std.specs.Option.{option_map}
@@ -8,9 +8,9 @@ use Rattle.rules.specs.Graph.{is_cold, cold_at}
 use Rattle.rules.specs.Join as join
 use Rattle.rules.specs.Join.{looser, starting_at, links}
 use Rattle.records.specs.declared.Graph.{Graph}
-use Rattle.records.specs.Tables.{tabled, Sound}
+use Rattle.records.specs.Tables.{tabled}
 use Rattle.marks.specs.Sets.{member}
-use Rattle.flow.specs.Lent.{Of, Marks}
+use Rattle.flow.specs.Lent.{Runs, Of, Marks}
 use Rattle.connect.specs.declared.Link.{Link}
 use Rattle.connect.specs.Joined.{begin_of, end_of, Stretch}
 
@@ -53,8 +53,8 @@ abbrev pub Unused : List (Option ℕ) → List ℕ → Option join.Link → Type
 Unused head used (Some k) = (member used k.index ≡ false) × ((n : ℕ) × (get_or head n None ≡ Some k.index))
 Unused head used None = Unit {0}
 
--- in a sound graph that has block n, the marked traces being used: the best link from n
+-- in every graph that has these tables and block n, the marked traces being used: the best link from n
 abbrev pub BestBy : Graph → List ℕ → List (Option ℕ) → List ℕ → ℕ → Option Link → Type 0
 BestBy g ends head used n r =
-    Sound g → Of g n → (ts : List (List ℕ)) → Starts ts ends head → (l : List ℕ) → Marks used l →
-    option_map link_in r ≡ best looser None (links (tabled g) ts l (cold_at (tabled g) n) (graph.block_at (tabled g) n).arms)
+    (t : Graph) → Runs t g → Of t n → (ts : List (List ℕ)) → Starts ts ends head → (l : List ℕ) → Marks used l →
+    option_map link_in r ≡ best looser None (links (tabled t) ts l (cold_at (tabled t) n) (graph.block_at (tabled t) n).arms)

@@ -1,4 +1,4 @@
--- Tables that stand for a graph: their lists of arms in are its ways in. Assumes nothing.
+-- Tables that carry a graph: their lists of arms in are its ways in. Assumes nothing.
 use Rattle.std.proofs.Common.{ℕ, zero, suc, ◌+◌, ◌≤◌, ◌<◌, ◌≡◌, inl, inr, List, [], ◌∷◌, ◌++◌, length, get_or, refl, sym, ap, ◌∙◌, subst, arith, add-one}
 use Rattle.limits.specs.Limits.{blocks, arms}
 use Rattle.lists.proofs.Choices.{split_lt}
@@ -13,7 +13,7 @@ use Rattle.records.specs.declared.Arms.{Arms}
 use Rattle.records.specs.declared.Graph.{Graph}
 use Rattle.records.specs.Tables.{block_at, up_to, tabled}
 use Rattle.records.proofs.TableLaws.{leaves_count}
-use Rattle.records.proofs.StandLaws.{listed_in, in_listed, once_listed}
+use Rattle.records.proofs.StandLaws.{listed_in, in_listed, once_apart}
 use Rattle.walks.proofs.ArmLaws.{last_first, low, todo_is}
 use Rattle.cycles.specs.Inward.{ins}
 use Rattle.cycles.specs.Gathering.{Sorted}
@@ -99,5 +99,5 @@ module _ (t : Graph) (s : Linkable t) where
     pub pieces_of : (p : List ℕ) → Sorted (ins t t.blocks) o (length o) p → PiecesOf (tabled t) p
     unfolding tabled
     pieces_of p h = record {
-      exact = sorted_exact (tabled t) (ins t t.blocks) ways s.fitting.whole (once_listed t.b t.a t.blocks s.fitting.stands.back) (finished (tabled t)) p (λ i k. refl) (subst (λ (l : List ℕ). Sorted (ins t t.blocks) l (length l) p) is h);
+      exact = sorted_exact (tabled t) (ins t t.blocks) ways s.fitting.whole (once_apart t.b t.a t.blocks s.fitting.stands.once) (finished (tabled t)) p (λ i k. refl) (subst (λ (l : List ℕ). Sorted (ins t t.blocks) l (length l) p) is h);
     }

@@ -10,7 +10,7 @@ use Rattle.records.specs.declared.Graph.{Graph}
 use Rattle.records.specs.Tables.{tabled}
 use Rattle.walks.specs.Walking.{Fitting}
 
--- The tables stand for a graph within their room, and there is room for each of its arms.
+-- The tables carry a graph within their room, and there is room for each of its arms.
 pub record Linkable (t : Graph) : Type 0 where
   pub fitting : Fitting t
   pub few_arms : arm_total (tabled t) ≤ arms

@@ -9,6 +9,7 @@ ghost use Rattle.limits.specs.Limits.{blocks, arms};
 ghost use Rattle.lists.specs.Marked.{marked};
 ghost use Rattle.rules.proofs.Membership.{In};
 ghost use Rattle.records.specs.Tables.{tabled, in_order};
+ghost use Rattle.stack.specs.Frames.{stack_of};
 ghost use Rattle.cycles.specs.Inward.{Lists, HasLists, added, entered, ins};
 ghost use Rattle.cycles.specs.Gathering.{blocks_on, Gathered, Collected, Sorted};
 ghost use Rattle.cycles.specs.Pieces.{Linkable, PiecesOf};
@@ -76,9 +77,9 @@ fn gather<'s>(
     mut stack: Stack<'s>,
     piece: &mut [u16; BLOCKS],
 ) -> Stack<'s>
-    requires { HasLists t.now × (0 < number) × (length stack ≤ marked piece.old blocks) }
-    ensures counts { length result + marked piece.old blocks ≡ length stack.entry + marked piece.new blocks }
-    ensures gathers { (f : ℕ → List ℕ) → Lists t.now f → Gathered (f block) number piece.old (blocks_on stack.entry) piece.new (blocks_on result) }
+    requires { HasLists t.now × (0 < number) × (length (stack_of stack) ≤ marked piece.old blocks) }
+    ensures counts { length (stack_of result) + marked piece.old blocks ≡ length (stack_of stack.entry) + marked piece.new blocks }
+    ensures gathers { (f : ℕ → List ℕ) → Lists t.now f → Gathered (f block) number piece.old (blocks_on (stack_of stack.entry)) piece.new (blocks_on (stack_of result)) }
 {
     let mut next = lists::at(&t.head, block, None);
     while let Some(k) = next {

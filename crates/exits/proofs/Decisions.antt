@@ -15,7 +15,7 @@ use Rattle.records.proofs.TableLaws.{leaves_count}
 use Rattle.exits.specs.Lays.{leaving_of, goes_to, BridgeWithin}
 
 -- arm j goes to the next block
-unfoldable goes : Option ℕ → List Arm → ℕ → Bool
+unfoldable pub goes : Option ℕ → List Arm → ℕ → Bool
 goes next [] j = false
 goes next (x ∷ l) zero = names next x.to
 goes next (x ∷ l) (suc j) = goes next l j

@@ -16,11 +16,11 @@ use Rattle.records.specs.declared.Arms.{Arms}
 use Rattle.records.specs.declared.Graph.{Graph}
 use Rattle.records.specs.declared.Order.{Order}
 use Rattle.records.specs.Tables as tables
-use Rattle.records.specs.Tables.{BlocksSized, block_at, leaves, up_to, tabled, in_order}
+use Rattle.records.specs.Tables.{block_at, leaves, up_to, tabled, in_order}
 use Rattle.records.proofs.TableLaws.{leaves_count}
 use Rattle.records.proofs.StandLaws.{find_in}
 use Rattle.exits.specs.declared.Laid.{Laid}
-use Rattle.exits.specs.Lays.{empty, Unlaid, lay_at, place_at, places_to, places_of, cold_at, arms_to, Fits, LaidOf}
+use Rattle.exits.specs.Lays.{empty, Unlaid, lay_at, place_at, places_to, places_of, cold_at, arms_to, Fits, Over, LaidOf}
 use Rattle.exits.proofs.Steps.{leave_at, new_to, laid_at, laid_to, at, Laying}
 use Rattle.exits.proofs.LeftArms.{left_length}
 use Rattle.exits.proofs.Parts.{new_bridges, laid_is}
@@ -43,14 +43,14 @@ empty_unlaid = record {
 }
 
 -- nothing counted, and the tables with the graph's marks, ends and weights
-module _ (g : Graph) (o : List ℕ) (split : Option ℕ) (s : BlocksSized g.b) (l : Laid) (u : Unlaid l) where
+module _ (g : Graph) (o : List ℕ) (split : Option ℕ) (ms : length g.b.marks ≡ most.blocks) (es : length g.b.ends ≡ most.blocks) (ws : length g.b.weight ≡ most.blocks) (l : Laid) (u : Unlaid l) where
   abbrev filled : Laid
   filled = record l { graph = record l.graph { blocks = 0; arms = 0; b = record l.graph.b { marks = g.b.marks; ends = g.b.ends; weight = g.b.weight } }; bridges = 0 }
 
   pub laying_start : Laying g o split filled 0
   unfolding places_to laid_to new_to arms_to
   laying_start = record {
-    sized = record { blocks = record { place = u.blocks_sized.place; listed = u.blocks_sized.listed; marks = s.marks; ends = s.ends; weight = s.weight }; arms = u.arms_sized; exits = u.exits_sized };
+    sized = record { blocks = record { place = u.blocks_sized.place; listed = u.blocks_sized.listed; marks = ms; ends = es; weight = ws }; arms = u.arms_sized; exits = u.exits_sized };
     placed = record { back = λ x h. absurd (omega (arith, h)); within = λ n. omega (arith, u.armless n) };
     places = refl;
     p_is = omega arith;
@@ -99,27 +99,34 @@ module _ (g : Graph) (o : List ℕ) (split : Option ℕ) where
         total_at (new_to (at g) o split i) (get_or o i 0) (cold_at split i) (leave_at (at g) o split i),
       )
 
-module _ {g : Graph} {o : Order} {split : Option ℕ} (y : Fits g o split) (sized : length o.block ≡ most.blocks) {r : Laid} (l : Laying g (in_order o) split r o.len) where
+-- t is any graph that has the tables of g that are read, and the order is one of t's
+module _ {g : Graph} {o : Order} {split : Option ℕ} (sized : length o.block ≡ most.blocks) {r : Laid} (l : Laying g (in_order o) split r o.len) (t : Graph) (v : Over t g) (y : Fits t o split) where
   long : length (in_order o) ≡ o.len
   long = order_length o sized (omega (arith, y.few))
 
-  own : (i : ℕ) → i < length (in_order o) → at g (get_or (in_order o) i 0) ≡ graph.block_at (tabled g) (get_or (in_order o) i 0)
+  -- its blocks are those of g
+  same_at : (n : ℕ) → at g n ≡ at t n
+  unfolding block_at leaves
+  same_at n = rw (v.marks_is, v.ends_is, v.weight_is, v.arms_are) refl
+
+  own : (i : ℕ) → i < length (in_order o) → at g (get_or (in_order o) i 0) ≡ graph.block_at (tabled t) (get_or (in_order o) i 0)
   unfolding tabled
   own i h =
       let h' : i < o.len = omega (arith, h, long) in
-      sym (find_in g.b g.a g.blocks (get_or (in_order o) i 0) (subst (λ (m : ℕ). In m (graph.numbers_of (tabled g))) (sym (order_get o i h')) (y.listed i h')))
+      same_at (get_or (in_order o) i 0)
+      ∙ sym (find_in t.b t.a t.blocks (get_or (in_order o) i 0) (subst (λ (m : ℕ). In m (graph.numbers_of (tabled t))) (sym (order_get o i h')) (y.listed i h')))
 
-  all_laid : laid_to (at g) (in_order o) split o.len ≡ lay_at (tabled g) (in_order o) split
-  all_laid = ap (laid_to (at g) (in_order o) split) (sym long) ∙ laid_is (at g) (tabled g) (in_order o) split own (λ s e. omega (arith, long, y.inside s e))
+  all_laid : laid_to (at g) (in_order o) split o.len ≡ lay_at (tabled t) (in_order o) split
+  all_laid = ap (laid_to (at g) (in_order o) split) (sym long) ∙ laid_is (at g) (tabled t) (in_order o) split own (λ s e. omega (arith, long, y.inside s e))
 
-  laid_places : places_of r ≡ lay_at (tabled g) (in_order o) split
+  laid_places : places_of r ≡ lay_at (tabled t) (in_order o) split
   laid_places = l.places ∙ all_laid
 
   few_arms : r.graph.arms ≤ most.arms
-  few_arms = omega (arith, l.q_is, y.orderly.total, ap (arms_to g.a.count (in_order o)) (sym long), l.few, y.few)
+  few_arms = omega (arith, l.q_is, y.orderly.total, ap (λ (a : Arms). arms_to a.count (in_order o) (length (in_order o))) v.arms_are, ap (arms_to g.a.count (in_order o)) (sym long), l.few, y.few)
 
   -- THE LAW
-  pub laid_of : LaidOf (tabled g) (in_order o) split r
+  pub laid_of : LaidOf (tabled t) (in_order o) split r
   unfolding tabled
   laid_of = record {
     places = laid_places;
@@ -132,7 +139,7 @@ module _ {g : Graph} {o : Order} {split : Option ℕ} (y : Fits g o split) (size
       blocks_sized = l.sized.blocks;
       arms_sized = l.sized.arms;
     };
-    bridged = omega (arith, l.new_is, new_bridges (at g) (tabled g) (in_order o) split o.len, ap bridges all_laid);
+    bridged = omega (arith, l.new_is, new_bridges (at g) (tabled t) (in_order o) split o.len, ap bridges all_laid);
     total = omega (arith, l.q_is, l.new_is, total_is g (in_order o) split o.len, ap (λ (x : List Place). arm_total (laid_graph x)) all_laid);
     few_arms = few_arms;
   }

@@ -13,7 +13,7 @@ use Rattle.records.specs.declared.Arms.{Arms}
 use Rattle.records.specs.declared.Graph.{Graph}
 use Rattle.records.specs.declared.Order.{Order}
 use Rattle.records.specs.Tables as tables
-use Rattle.records.specs.Tables.{arm_at, arms_from, leaves, block_at, tabled, BlocksSized, ArmsSized, ArmsWithin, Stands, in_order}
+use Rattle.records.specs.Tables.{arm_at, arms_from, leaves, block_at, tabled, BlocksSized, ArmsSized, ArmsWithin, Carries, Stands, in_order}
 use Rattle.exits.specs.declared.Laid.{Laid}
 
 -- ---- the decision, by the few things that decide it: the end, how many arms there are, and whether the first and the second go
@@ -153,11 +153,24 @@ lay_at g o (Some split) = let w = lay_part g false numbers (take split o) in w +
 
 -- an order of a graph's blocks and its split can be laid
 pub record Fits (t : Graph) (o : Order) (split : Option ℕ) : Type 0 where
-  pub stands : Stands numbers most_arms t (tabled t)
+  pub stands : Carries numbers most_arms t (tabled t)
   pub few : o.len ≤ numbers
   pub orderly : Orderly t.a.count (in_order o)
   pub listed : (i : ℕ) → i < o.len → In (get_or o.block i 0) (graph.numbers_of (tabled t))
   pub inside : (s : ℕ) → split ≡ Some s → s ≤ o.len
+
+-- t has g's marks, ends, weights and arms, wherever its blocks are listed
+pub record Over (t g : Graph) : Type 0 where
+  pub marks_is : t.b.marks ≡ g.b.marks
+  pub ends_is : t.b.ends ≡ g.b.ends
+  pub weight_is : t.b.weight ≡ g.b.weight
+  pub arms_are : t.a ≡ g.a
+
+-- some graph that has them has an order that can be laid
+pub record Layable (g : Graph) (o : Order) (split : Option ℕ) : Type 0 where
+  pub tables : Graph
+  pub over : Over tables g
+  pub fits : Fits tables o split
 
 -- what is laid of the order o of the graph g
 pub record LaidOf (g : graph.Graph) (o : List ℕ) (split : Option ℕ) (l : Laid) : Type 0 where
@@ -166,3 +179,7 @@ pub record LaidOf (g : graph.Graph) (o : List ℕ) (split : Option ℕ) (l : Lai
   pub bridged : l.bridges ≡ bridges (lay_at g o split)
   pub total : l.graph.arms ≡ arm_total (laid_graph (lay_at g o split))
   pub few_arms : l.graph.arms ≤ arms
+
+-- of every such graph that is what is laid
+abbrev pub Lays : Graph → Order → Option ℕ → Laid → Type 0
+Lays g o split l = (t : Graph) → Over t g → Fits t o split → LaidOf (tabled t) (in_order o) split l

@@ -6,8 +6,8 @@ ghost use Rattle.limits.specs.Limits.{blocks, arms, numbers};
 ghost use Rattle.rules.specs.declared.Leaving.TheVariants.{Exchanged};
 ghost use Rattle.rules.specs.Exits as rule;
 ghost use Rattle.rules.specs.Exits.{indirect, exit_of};
-ghost use Rattle.records.specs.Tables.{leaves, in_order, tabled};
-ghost use Rattle.exits.specs.Lays.{leaving_of, goes_to, source_of, BridgeWithin, Left, next_at, cold_at, with_arm, with_place, with_bridge, Unlaid, Fits, LaidOf};
+ghost use Rattle.records.specs.Tables.{leaves, in_order};
+ghost use Rattle.exits.specs.Lays.{leaving_of, goes_to, source_of, BridgeWithin, Left, next_at, cold_at, with_arm, with_place, with_bridge, Unlaid, Layable, Lays};
 
 use limits::{ARMS, BLOCKS, NUMBERS};
 use records::{Arms, Graph, Order};
@@ -251,9 +251,9 @@ fn put_bridge(from: &Arms, n: u16, arm: usize, cold: bool, laid: &mut Laid)
 
 // The order as it is laid, its cold part from place `split` on: its blocks, each with its bridge behind it.
 pub fn lay(g: &Graph, o: &Order, split: Option<usize>, laid: &mut Laid)
-    requires layable { Fits g.now o.now split }
+    requires layable { Layable g.now o.now split }
     requires unlaid { Unlaid laid.old }
-    ensures { LaidOf (tabled g.now) (in_order o.now) split laid.new }
+    ensures { Lays g.now o.now split laid.new }
 {
     laid.graph.blocks = 0;
     laid.graph.arms = 0;

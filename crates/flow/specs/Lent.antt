@@ -6,8 +6,26 @@ use Rattle.rules.specs.Graph.{numbers_of}
 use Rattle.rules.proofs.Membership.{In}
 use Rattle.records.specs.declared.Arms.{Arms}
 use Rattle.records.specs.declared.Graph.{Graph}
-use Rattle.records.specs.Tables.{arm_at, tabled}
+use Rattle.records.specs.Tables.{arm_at, tabled, Sound}
 use Rattle.marks.specs.Sets.{member}
+
+-- t has these arms, whatever they carry
+pub record HasArms (t : Graph) (a : Arms) : Type 0 where
+  pub first_is : t.a.first ≡ a.first
+  pub count_is : t.a.count ≡ a.count
+  pub to_is : t.a.to ≡ a.to
+  pub weight_is : t.a.weight ≡ a.weight
+
+-- t is sound and has g's marks and arms, and maybe other tables
+pub record Runs (t g : Graph) : Type 0 where
+  pub sound : Sound t
+  pub marks_is : t.b.marks ≡ g.b.marks
+  pub arms : HasArms t g.a
+
+-- and its weights too
+pub record Flows (t g : Graph) : Type 0 where
+  pub runs : Runs t g
+  pub weight_is : t.b.weight ≡ g.b.weight
 
 -- n is one of t's blocks
 abbrev pub Of : Graph → ℕ → Type 0

@@ -13,7 +13,7 @@ use Rattle.rules.proofs.Wholeness.{Whole, block_in, arm_target}
 use Rattle.rules.proofs.Forwarded.{forward_whole}
 use Rattle.records.specs.declared.Arms.{Arms}
 use Rattle.records.specs.declared.Graph.{Graph}
-use Rattle.records.specs.Tables.{Has, Apart, ArmsWithin, arm_at, arms_from, leaves, block_at, up_to, tabled, Stands, Sound}
+use Rattle.records.specs.Tables.{Has, Apart, ArmsWithin, arm_at, arms_from, leaves, block_at, up_to, tabled, Back, Carries, Sound}
 use Rattle.records.proofs.StandLaws.{listed_in, in_listed, find_listed}
 use Rattle.forwarding.specs.Forwards.{changed, Forwarded}
 use Rattle.forwarding.specs.Steps.{Goals, turned, moved_of, Leads, cleared}
@@ -93,9 +93,6 @@ module _ (t : Graph) (s : Sound t) where
       unfolding moves tabled
       moved_count = all_counted onward (goal (tabled t)) t.b t.a n apart fits known n (omega arith) ∙ ap (moves_between (up_to t.b t.a n)) moved_graph
 
-      once : (i j : ℕ) → i < n → j < n → k i ≡ k j → i ≡ j
-      once i j l m e = omega (arith, sym (s.stands.back i l) ∙ ap (λ (x : ℕ). get_or t.b.place x 0) e ∙ s.stands.back j m)
-
       start_long : Long u
       start_long = record { marks = s.stands.blocks_sized.marks; weight = s.stands.blocks_sized.weight; count = s.stands.arms_sized.count }
 
@@ -110,7 +107,7 @@ module _ (t : Graph) (s : Sound t) where
         unfolding tabled forward
         is_forward =
             ap (up_to r.b r.a) (ap (λ (z : Graph). z.blocks) kept_is)
-            ∙ all_cleared onward reached u start_long (goal (tabled t)) (tabled u) once below (λ i l. sym (g.known i l)) (λ x. sym (in_to x)) n (omega arith)
+            ∙ all_cleared onward reached u start_long (goal (tabled t)) (tabled u) s.stands.once below (λ i l. sym (g.known i l)) (λ x. sym (in_to x)) n (omega arith)
             ∙ ap (λ (m : graph.Graph). map (cleared_block (goal (tabled t)) m) m) moved_graph
 
         still : (m : ℕ) → get_or r.a.count m 0 ≤ get_or t.a.count m 0
@@ -126,14 +123,14 @@ module _ (t : Graph) (s : Sound t) where
         is_apart : Apart z
         is_apart i j l m d q x y = apart i j l m d q (still_has (k i) q x) (still_has (k j) q y)
 
-        is_standing : Stands numbers most_arms z (forward (tabled t))
+        is_standing : Carries numbers most_arms z (forward (tabled t))
         is_standing =
             let long = cleared_long onward reached u start_long n in
             record {
               graph_is = ap tabled (sym kept_is) ∙ is_forward;
               few = s.stands.few;
               below = s.stands.below;
-              back = s.stands.back;
+              once = s.stands.once;
               fits = λ m. omega (arith, still m, s.stands.fits m);
               blocks_sized = record { place = s.stands.blocks_sized.place; listed = s.stands.blocks_sized.listed; marks = long.marks; ends = s.stands.blocks_sized.ends; weight = long.weight };
               arms_sized =
@@ -150,7 +147,8 @@ module _ (t : Graph) (s : Sound t) where
         pub forwards : Forwarded t r (moved_of onward t.b t.a n)
         forwards =
             record {
-              stands = subst (λ (x : Graph). Stands numbers most_arms x (forward (tabled t))) (sym kept_is) is_standing;
+              stands = subst (λ (x : Graph). Carries numbers most_arms x (forward (tabled t))) (sym kept_is) is_standing;
+              back = subst (λ (x : Graph). Back t → Back x) (sym kept_is) (λ b. b);
               kept = kept_is ∙ ap (changed t r.b.marks r.b.weight r.a.count) (sym (ap (λ (x : Graph). x.a.to) kept_is));
               moved_is = moved_count;
               apart = subst Apart (sym kept_is) is_apart;

@@ -6,7 +6,7 @@
 
 ghost use Rattle.std.specs.Prelude.{◌≡◌, ◌||◌, ℕ, ◌<◌, get_or};
 ghost use Rattle.rules.specs.Heads.{hottest};
-ghost use Rattle.records.specs.Tables.{tabled};
+ghost use Rattle.records.specs.Tables.{tabled, Back};
 ghost use Rattle.marks.specs.Sets.{member};
 ghost use Rattle.walks.specs.Walking.{Fitting};
 ghost use Rattle.cycles.specs.Pieces.{Linkable};
@@ -90,7 +90,7 @@ fn mark_heads(g: &Graph, back: &Set, floor: u64) -> Set
 
 // The blocks that are heads in the listed order.
 pub fn heads(g: &Graph) -> Set
-    requires { Linkable g.now }
+    requires { Linkable g.now × Back g.now }
     ensures { HeadsOf g.now result }
 {
     let piece = cycles::cycles(g);

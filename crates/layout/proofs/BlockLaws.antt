@@ -27,13 +27,13 @@ use Rattle.rules.proofs.Bounds.{readied_total}
 use Rattle.records.specs.declared.Blocks.{Blocks}
 use Rattle.records.specs.declared.Graph.{Graph}
 use Rattle.records.specs.declared.Order.{Order}
-use Rattle.records.specs.Tables.{tabled, Stands, Sound, in_order}
-use Rattle.records.proofs.StandLaws.{once_listed, in_listed, in_tables, find_in, numbers_are}
+use Rattle.records.specs.Tables.{tabled, Carries, Stands, Sound, in_order}
+use Rattle.records.proofs.StandLaws.{once_apart, in_listed, in_tables, find_in, numbers_are}
 use Rattle.cold.specs.declared.Parts.{Parts}
 use Rattle.cold.specs.Sides.{Divides, Parted}
 use Rattle.cold.specs.Spreading.{SpreadTo}
 use Rattle.exits.specs.declared.Laid.{Laid}
-use Rattle.exits.specs.Lays.{lay_at, arms_to, split_number, Fits, LaidOf}
+use Rattle.exits.specs.Lays.{lay_at, arms_to, split_number, Fits, Over, Layable, LaidOf, Lays}
 use Rattle.exits.proofs.Turns.{order_length, order_get}
 use Rattle.layout.specs.Blocks.{split_at, Ready, PlacedOf}
 use Rattle.layout.proofs.OrderLaws.{ordered_once, get_in, once_places, partition_count, order_total}
@@ -50,6 +50,30 @@ stands_own s =
       blocks_sized = s.blocks_sized;
       arms_sized = s.arms_sized;
     }
+
+-- and tables that carry a graph carry their own
+pub carries_own : {n m : ℕ} {t : Graph} {g : graph.Graph} → Carries n m t g → Carries n m t (tabled t)
+carries_own c =
+    record {
+      graph_is = refl;
+      few = c.few;
+      below = c.below;
+      once = c.once;
+      fits = c.fits;
+      blocks_sized = c.blocks_sized;
+      arms_sized = c.arms_sized;
+    }
+
+-- a graph has its own tables, so its order can be laid by them, and is
+module _ {g : Graph} {o : Order} {split : Option ℕ} (y : Fits g o split) where
+  over_own : Over g g
+  over_own = record { marks_is = refl; ends_is = refl; weight_is = refl; arms_are = refl }
+
+  pub layable_own : Layable g o split
+  layable_own = record { tables = g; over = over_own; fits = y }
+
+  pub laid_own : {l : Laid} → Lays g o split l → LaidOf (tabled g) (in_order o) split l
+  laid_own h = h g over_own y
 
 -- ---- the parts
 module _ (g : graph.Graph) (o : List ℕ) where
@@ -99,13 +123,13 @@ part_first g cold new n r e = (
     v : graph.Graph → ℕ → List ℕ → Leaving
     v g n r = edges (next_in r) (graph.block_at g n).end (graph.block_at g n).arms
 
-module _ (t s : Graph) (stands : Stands most.numbers most.most_arms s (spread (tabled t))) (w : Whole (tabled t)) (total : arm_total (tabled t) ≤ most.most_arms) where
+module _ (t s : Graph) (stands : Carries most.numbers most.most_arms s (spread (tabled t))) (w : Whole (tabled t)) (total : arm_total (tabled t) ≤ most.most_arms) where
   pub whole : Whole (tabled s)
   whole = subst Whole (sym stands.graph_is) (spread_whole (tabled t) w)
 
   once : Once (numbers_of (tabled s))
   unfolding tabled
-  once = once_listed s.b s.a s.blocks stands.back
+  once = once_apart s.b s.a s.blocks stands.once
 
   low : (n : ℕ) → In n (numbers_of (tabled s)) → n < most.numbers
   unfolding tabled
@@ -172,7 +196,7 @@ module _ (t s : Graph) (stands : Stands most.numbers most.most_arms s (spread (t
 
       pub layable : Fits s p cut
       layable = record {
-        stands = stands_own stands;
+        stands = carries_own stands;
         few = few;
         orderly = record {
           few = omega (arith, long, few);
@@ -294,7 +318,7 @@ module _ (t s : Graph) (stands : Stands most.numbers most.most_arms s (spread (t
 -- ---- the passes, one after the other; s is what spreading leaves
 module _ {t s : Graph} (r : Ready t) (sp : SpreadTo t s) where
   pub spread_sound : Sound s
-  spread_sound = record { stands = stands_own sp.stands; whole = whole t s sp.stands r.sound.whole r.total }
+  spread_sound = record { stands = carries_own sp.stands; whole = whole t s sp.stands r.sound.whole r.total }
 
   module _ (reorder : Bool) (o : Order) (os : (in_order o ≡ ordered reorder (tabled s)) × (o.len ≡ s.blocks)) where
     pub can_divide : Divides s o

@@ -32,11 +32,11 @@ use Rattle.rules.proofs.Demands.{asked}
 use Rattle.records.specs.declared.Graph.{Graph}
 use Rattle.records.specs.Tables.{tabled, Stands, Holds, Sound, Apart}
 use Rattle.records.proofs.TableLaws.{up_to_length}
-use Rattle.records.proofs.StandLaws.{listed_in}
+use Rattle.records.proofs.StandLaws.{listed_in, carries_of}
 use Rattle.reader.specs.Reads.{Reads}
 use Rattle.layout.specs.Blocks.{places_by, split_by, Ready}
 use Rattle.layout.specs.Outcomes.{ForwardsIf, laid_out, outcome_by, Fit, Makes}
-use Rattle.layout.proofs.BlockLaws.{stands_own}
+use Rattle.layout.proofs.BlockLaws.{carries_own}
 use Rattle.layout.proofs.BackLaws.{refused_by, accepted, held}
 
 laid_places : (b reorder : Bool) (g : graph.Graph) → places_by reorder (asked b g) ≡ layout b reorder g
@@ -109,7 +109,7 @@ module _ {A : Type 0} (s d : List ℕ) (on reorder : Bool) (t : Graph) (r : Resu
 
     -- the tables as read can be forwarded
     pub can_forward : Sound t × Apart t
-    can_forward = (record { stands = stands; whole = sound_graph.whole }, k.apart)
+    can_forward = (record { stands = carries_of stands; whole = sound_graph.whole }, k.apart)
 
     module _ (u : Graph) (moved : ℕ) (f : ForwardsIf on t u moved) where
       asked_whole : (x : Bool) → Whole (asked x (tabled t))
@@ -124,7 +124,7 @@ module _ {A : Type 0} (s d : List ℕ) (on reorder : Bool) (t : Graph) (r : Resu
       pub ready : Ready u
       ready =
           record {
-            sound = record { stands = stands_own f.stands; whole = subst Whole (sym f.stands.graph_is) (asked_whole on) };
+            sound = record { stands = carries_own f.stands; whole = subst Whole (sym f.stands.graph_is) (asked_whole on) };
             total = omega (arith, ap arm_total f.stands.graph_is, asked_total on);
           }
 

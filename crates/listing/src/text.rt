@@ -31,7 +31,7 @@ impl<'a> Text<'a> {
 
     // The digits of a number, made from the last on, so that their place goes down with what is left. By its contract
     // `Display` may fail, so it does not say enough here.
-    fn put_decimal(&mut self, n: u64)
+    pub fn put_decimal(&mut self, n: u64)
         requires { self.old.len + length (decimal n) ≤ length self.old.out.now }
         ensures { Put (decimal n) self.old self.new }
     {

@@ -18,7 +18,8 @@ use Rattle.rules.proofs.Counting.{one, tally, tally_append, count, Once, count�
 use Rattle.rules.proofs.Wholeness.{block_in}
 use Rattle.records.specs.declared.Blocks.{Blocks}
 use Rattle.records.specs.declared.Arms.{Arms}
-use Rattle.records.specs.Tables.{block_at, up_to}
+use Rattle.records.specs.declared.Graph.{Graph}
+use Rattle.records.specs.Tables.{block_at, up_to, Back, Carries, Stands}
 
 module _ (b : Blocks) (a : Arms) where
   -- the numbers, one more at a time
@@ -47,11 +48,11 @@ module _ (b : Blocks) (a : Arms) where
       ⊎_elim (λ x. let r = in_listed k n x in (r.0, omega (arith, r.1), r.2)) (λ x. ⊎_elim (λ e. (n, omega arith, sym e)) (λ z. absurd z) x)
       (append-In k (numbers_of (up_to b a n)) (get_or b.listed n 0 ∷ []) (subst (In k) (numbers_more n) j))
 
-  -- `place` being the way back, no number is listed twice
-  pub once_listed : (n : ℕ) → ((i : ℕ) → i < n → get_or b.place (get_or b.listed i 0) 0 ≡ suc i) → Once (numbers_of (up_to b a n))
+  -- where no two places list the same number, none is listed twice
+  pub once_apart : (n : ℕ) → ((i j : ℕ) → i < n → j < n → get_or b.listed i 0 ≡ get_or b.listed j 0 → i ≡ j) → Once (numbers_of (up_to b a n))
   unfolding numbers_of up_to count tally
-  once_listed zero h k = omega arith
-  once_listed (suc n) h k = rw (numbers_more n) (rw (tally_append (λ (x : ℕ). eqb x k) (numbers_of (up_to b a n)) (get_or b.listed n 0 ∷ [])) (go (once_listed n (λ i l. h i (omega (arith, l))) k) (test (eqb (get_or b.listed n 0) k))))
+  once_apart zero h k = omega arith
+  once_apart (suc n) h k = rw (numbers_more n) (rw (tally_append (λ (x : ℕ). eqb x k) (numbers_of (up_to b a n)) (get_or b.listed n 0 ∷ [])) (go (once_apart n (λ i j l m. h i j (omega (arith, l)) (omega (arith, m))) k) (test (eqb (get_or b.listed n 0) k))))
     where
       go : count k (numbers_of (up_to b a n)) ≤ 1 → T (eqb (get_or b.listed n 0) k) ⊎ T (not (eqb (get_or b.listed n 0) k)) → tally (λ (x : ℕ). eqb x k) (numbers_of (up_to b a n)) + (one (eqb (get_or b.listed n 0) k) + 0) ≤ 1
       go ih (inl t) = omega (arith, ap one (T→≡ (eqb (get_or b.listed n 0) k) t), absent)
@@ -60,8 +61,12 @@ module _ (b : Blocks) (a : Arms) where
           absent =
               split_eq (count k (numbers_of (up_to b a n))) (λ e. e)
               (λ f. let r = in_listed k n (count→In k (numbers_of (up_to b a n)) (omega (arith, f))) in
-              absurd (omega (arith, r.1, sym (h r.0 (omega (arith, r.1))) ∙ ap (λ (x : ℕ). get_or b.place x 0) (r.2 ∙ sym (eqb→eq (get_or b.listed n 0) k t)) ∙ h n (omega arith))))
+              absurd (let q : r.0 ≡ n = h r.0 n (omega (arith, r.1)) (omega arith) (r.2 ∙ sym (eqb→eq (get_or b.listed n 0) k t)) in omega (arith, r.1, q)))
       go ih (inr f) = omega (arith, ap one (F→≡ (eqb (get_or b.listed n 0) k) f), ih)
+
+  -- nor where `place` is the way back
+  pub once_listed : (n : ℕ) → ((i : ℕ) → i < n → get_or b.place (get_or b.listed i 0) 0 ≡ suc i) → Once (numbers_of (up_to b a n))
+  once_listed n h = once_apart n (λ i j l m e. let q : suc i ≡ suc j = sym (h i l) ∙ ap (λ (k : ℕ). get_or b.place k 0) e ∙ h j m in omega (arith, q))
 
   -- a block of the graph is what the tables have for its number
   pub in_tables : (n : ℕ) (x : graph.Block) → In x (up_to b a n) → x ≡ block_at b a x.number
@@ -133,3 +138,19 @@ module _ (b : Blocks) (a : Arms) where
 
   pub entry_stays : (i n e : ℕ) → i ≤ n → entry (up_to b a i) ≡ Some e → entry (up_to b a n) ≡ Some e
   entry_stays i n e l h = let q : i + (n - i) ≡ n = omega (arith, l) in subst (λ (m : ℕ). entry (up_to b a m) ≡ Some e) q (entry_on i (n - i) e h)
+
+-- ---- tables that stand for a graph carry it, and where `place` is the way back too, tables that carry a graph stand for it
+module _ {n m : ℕ} {t : Graph} {g : graph.Graph} where
+  pub carries_of : Stands n m t g → Carries n m t g
+  carries_of s = record {
+    graph_is = s.graph_is;
+    few = s.few;
+    below = s.below;
+    once = λ i j l k e. let q : suc i ≡ suc j = sym (s.back i l) ∙ ap (λ (x : ℕ). get_or t.b.place x 0) e ∙ s.back j k in omega (arith, q);
+    fits = s.fits;
+    blocks_sized = s.blocks_sized;
+    arms_sized = s.arms_sized;
+  }
+
+  pub stands_of : Carries n m t g → Back t → Stands n m t g
+  stands_of c b = record { graph_is = c.graph_is; few = c.few; below = c.below; back = b; fits = c.fits; blocks_sized = c.blocks_sized; arms_sized = c.arms_sized }

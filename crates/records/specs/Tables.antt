@@ -125,9 +125,24 @@ pub record Stands (n m : ℕ) (t : Graph) (g : graph.Graph) : Type 0 where
   pub blocks_sized : BlocksSized t.b
   pub arms_sized : ArmsSized t.a
 
--- The tables stand for a graph as the passes lend it: within the limits, and its arms go to blocks of its own.
+-- `place` is the way back
+abbrev pub Back : Graph → Type 0
+Back t = (i : ℕ) → i < t.blocks → get_or t.b.place (get_or t.b.listed i 0) 0 ≡ suc i
+
+-- The tables carry the graph g, wherever `place` says that its blocks are listed: what `Stands` says, but for the way back.
+pub record Carries (n m : ℕ) (t : Graph) (g : graph.Graph) : Type 0 where
+  pub graph_is : tabled t ≡ g
+  pub few : t.blocks ≤ n
+  pub below : (i : ℕ) → i < t.blocks → get_or t.b.listed i 0 < n
+  pub once : (i j : ℕ) → i < t.blocks → j < t.blocks → get_or t.b.listed i 0 ≡ get_or t.b.listed j 0 → i ≡ j
+  pub fits : ArmsWithin t.a m
+  pub blocks_sized : BlocksSized t.b
+  pub arms_sized : ArmsSized t.a
+
+-- The tables carry a graph as the passes lend it: within the limits, and its arms go to blocks of its own. No pass but `heads`
+-- reads `place`, so none asks that it is the way back.
 pub record Sound (t : Graph) : Type 0 where
-  pub stands : Stands most.numbers most.most_arms t (tabled t)
+  pub stands : Carries most.numbers most.most_arms t (tabled t)
   pub whole : Whole (tabled t)
 
 -- an order of blocks

@@ -53,7 +53,7 @@ pub fn decode(r: &[u8]) -> Record
     requires { length r.now ≡ size }
     ensures { result ≡ record_of r.now }
 {
-    if r[4..8] != [0; 4] {
+    if r[4] != 0 || r[5] != 0 || r[6] != 0 || r[7] != 0 {
         return Record::Outside;
     }
     match r[0] {

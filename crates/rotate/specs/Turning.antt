@@ -12,9 +12,9 @@ use Rattle.rules.proofs.Membership.{In}
 use Rattle.records.specs.declared.Arms.{Arms}
 use Rattle.records.specs.declared.Blocks.{Blocks}
 use Rattle.records.specs.declared.Graph.{Graph}
-use Rattle.records.specs.Tables.{leaves, tabled, Sound}
+use Rattle.records.specs.Tables.{leaves, tabled}
 use Rattle.marks.specs.Sets.{member}
-use Rattle.flow.specs.Lent.{Of, Marks}
+use Rattle.flow.specs.Lent.{Flows, Of, Marks}
 use Rattle.rotate.specs.declared.Out.{Out}
 
 -- what stands in the trace are numbers of blocks
@@ -64,11 +64,11 @@ turned_at g preferred trace (Some p) = take p trace ++ turned g preferred (drop 
 turned_at g preferred trace None = trace
 
 -- the part that turns starts at the place r
-pub record Turns (t : Graph) (entry : Option ℕ) (trace : List ℕ) (r : Option ℕ) : Type 0 where
+pub record Turns (g : Graph) (entry : Option ℕ) (trace : List ℕ) (r : Option ℕ) : Type 0 where
   pub within : IfSome r (λ (p : ℕ). p < length trace)
-  pub parted : Sound t → entry ≡ graph.entry (tabled t) → AllOf t trace → (laid begun : List ℕ) → rotate (tabled t) laid begun trace ≡ turned_at (tabled t) (chosen laid begun) trace r
+  pub parted : (t : Graph) → Flows t g → entry ≡ graph.entry (tabled t) → AllOf t trace → (laid begun : List ℕ) → rotate (tabled t) laid begun trace ≡ turned_at (tabled t) (chosen laid begun) trace r
 
--- the trace is rotated; `seen` is what is laid, `starts` what begins an earlier trace
+-- in every graph that has these tables the trace is rotated; `seen` is what is laid, `starts` what begins an earlier trace
 abbrev pub Rotated : Graph → List ℕ → List ℕ → Option ℕ → List ℕ → List ℕ → Type 0
-Rotated t seen starts entry before after =
-    Sound t → entry ≡ graph.entry (tabled t) → AllOf t before → (laid begun : List ℕ) → Marks seen laid → Marks starts begun → after ≡ rotate (tabled t) laid begun before
+Rotated g seen starts entry before after =
+    (t : Graph) → Flows t g → entry ≡ graph.entry (tabled t) → AllOf t before → (laid begun : List ℕ) → Marks seen laid → Marks starts begun → after ≡ rotate (tabled t) laid begun before

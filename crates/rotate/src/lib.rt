@@ -3,7 +3,7 @@
 // four fifths of its target's weight: a loop that is seldom gone round stays as it is.
 #![tactic(auto)]
 
-ghost use Rattle.std.specs.Prelude.{length, ◌≡◌, [], ◌∷◌, ℕ, ◌<◌, ◌==◌, get_or, Some, None, position};
+ghost use Rattle.std.specs.Prelude.{length, ◌≡◌, [], ◌∷◌, ◌++◌, ℕ, ◌<◌, ◌≤◌, ◌==◌, get_or, take, drop, Some, None, position};
 ghost use Rattle.std.specs.Option.{IfSome, option_map};
 ghost use Rattle.std.specs.List.{list_any};
 ghost use Rattle.limits.specs.Limits.{blocks, arms};
@@ -181,6 +181,18 @@ fn best_exit(a: &Arms, seen: &Set, starts: &Set, inside: &Set, part: &[u16]) -> 
     found
 }
 
+// What follows the first k of a part comes before these: turned round whole and then each by itself, for the library's
+// `rotate_left` makes the archive ask whoever links it for one function more, `memmove`.
+fn turn(part: &mut [u16], k: usize)
+    requires { k ≤ length part.old }
+    ensures { part.new ≡ drop k part.old ++ take k part.old }
+{
+    part.reverse();
+    let back = part.len() - k;
+    part[..back].reverse();
+    part[back..].reverse();
+}
+
 // The trace, as it ends; `seen` has the blocks that are laid, its own too, and `starts` the first blocks of the traces
 // before it.
 #[tactic(auto, using(crate::proofs::RotateLaws::turn_steps))]
@@ -196,6 +208,6 @@ pub fn rotate(g: &Graph, seen: &Set, starts: &Set, entry: Option<u16>, trace: &m
     let part = &mut trace[p..];
     let inside = inside_of(part);
     if let Some(out) = best_exit(&g.a, seen, starts, &inside, part) {
-        part.rotate_left(out.index + 1);
+        turn(part, out.index + 1);
     }
 }

@@ -5,7 +5,7 @@ use native.Mathlib.Omega.{arith}
 use mathlib.Core.Path.{◌≡◌, refl, sym, ap, ◌∙◌}
 use mathlib.Core.Bool.{Bool, true, false, cond, ◌||◌}
 use mathlib.Core.Logic.{inl, inr}
-use mathlib.Core.List.{List, [], ◌∷◌, ◌++◌}
+use mathlib.Core.List.{List, [], ◌∷◌, ◌++◌, map}
 use lib.Dec.{eqb}
 use lib.ListN.{length, get_or, set, replicate}
 use borrow.Author.Tests.{eq-eqb, eqb-true}
@@ -22,7 +22,7 @@ use Rattle.records.proofs.StandLaws.{in_tables}
 use Rattle.records.proofs.TableLaws.{arms_more}
 use Rattle.marks.proofs.SetLaws.{eqb_turn}
 use Rattle.flow.specs.Lent.{Of}
-use Rattle.flow.proofs.SoundLaws.{block_is, small, arms_are, goes_on}
+use Rattle.flow.proofs.SoundLaws.{block_is, small, arms_are, goes_on, bare, leaves_bare}
 use Rattle.seeds.specs.Reached.{Reached, Notes, heaviest, Entries, Noted}
 
 -- ---- by the rules
@@ -135,10 +135,18 @@ module _ {t : Graph} (s : Sound t) (n : ℕ) (i : Of t n) where
   pub notes : Notes t.a n
   notes = record { fits = omega (arith, s.stands.fits n); goes = λ q h. omega (arith, small s (get_or t.a.to q 0) (goes_on s n i q h)) }
 
+-- what the arms carry does not count
+heaviest_bare : (m k : ℕ) (l : List graph.Arm) → heaviest m k (map bare l) ≡ heaviest m k l
+unfolding heaviest foldl
+heaviest_bare m k [] = refl
+heaviest_bare m k (a ∷ l) = heaviest_bare m (cond (eqb a.to m) (max k a.weight) k) l
+
 pub entries_noted : (a : Arms) (n : ℕ) (before after : List ℕ) → Entries a n before after → Noted a n before after
 entries_noted a n before after v t z s i laid h m j =
     v m ∙ ap (λ (k : ℕ). heaviest m k (leaves a n)) (h m j)
-    ∙ rw (sym z) (sym (heaviest_more laid m n (leaves t.a n) (tabled t) (known s n i) i))
+    ∙ sym (heaviest_bare m (heaviest_in (tabled t) laid m) (leaves a n)) ∙ ap (heaviest m (heaviest_in (tabled t) laid m)) (sym (leaves_bare z n))
+    ∙ heaviest_bare m (heaviest_in (tabled t) laid m) (leaves t.a n)
+    ∙ sym (heaviest_more laid m n (leaves t.a n) (tabled t) (known s n i) i)
 
 -- an entry that none of the arms is over stays
 module _ (a : Arms) (m k : ℕ) where

@@ -8,6 +8,8 @@ use Rattle.std.specs.Prelude.{Option, None, Some, filter, fold}
 use lib.Dec.{leb}
 use lib.ListN.{get_or}
 use Rattle.rules.specs.Lists.{keep, best}
+use Rattle.rules.specs.Graph as graph
+use Rattle.rules.specs.Graph.{is_cold}
 use Rattle.rules.specs.Traces.{Seed, seed_of, below, startable, next_seed}
 use Rattle.rules.proofs.Membership.{In}
 use Rattle.records.specs.declared.Blocks.{Blocks}
@@ -77,14 +79,18 @@ map_same p q f h (n ∷ l) t s = rw (t n (inl refl)) (go (q n) (map_same p q f h
     go true ih = rw (s n (inl refl), ih) refl
     go false ih = ih
 
-module _ {t : Graph} (s : Sound t) (seen laid : List ℕ) (m : Marks seen laid) (reached : List ℕ) (h : Reached t laid reached) (low n : ℕ) (i : Of t n) where
-  startable_same : startable_by t.b seen low n ≡ startable (tabled t) laid low n
-  unfolding startable_by startable
-  startable_same = rw (m n, weight_is s n i) refl
+module _ {t : Graph} (b : Blocks) (marks : t.b.marks ≡ b.marks) (weights : t.b.weight ≡ b.weight) (s : Sound t) (seen laid : List ℕ) (m : Marks seen laid)
+    (reached : List ℕ) (h : Reached t laid reached) (low n : ℕ) (i : Of t n) where
+  heavy : (graph.block_at (tabled t) n).weight ≡ get_or b.weight n 0
+  heavy = weight_is s n i ∙ ap (λ (l : List ℕ). get_or l n 0) weights
 
-  seed_same : seed_by t.b reached n ≡ seed_of (tabled t) laid n
+  startable_same : startable_by b seen low n ≡ startable (tabled t) laid low n
+  unfolding startable_by startable
+  startable_same = rw (m n, heavy) refl
+
+  seed_same : seed_by b reached n ≡ seed_of (tabled t) laid n
   unfolding seed_by seed_of
-  seed_same = rw (cold_is s n i, weight_is s n i, sym (h n i)) refl
+  seed_same = rw (cold_is s n i ∙ ap (λ (l : List ℕ). is_cold (get_or l n 0)) marks, heavy, sym (h n i)) refl
 
 module _ (b : Blocks) (seen reached : List ℕ) (low : ℕ) (order : List ℕ) where
   pub best_among : Among order seen (best_of b seen reached low order)
@@ -102,8 +108,8 @@ module _ (b : Blocks) (seen reached : List ℕ) (low : ℕ) (order : List ℕ) w
 
   pub best_starts : StartsAt b order seen reached low (best_of b seen reached low order)
   unfolding next_seed seed_in best_of
-  best_starts t z s o laid m h =
+  best_starts t z w s o laid m h =
       sym (block_is (best_of b seen reached low order)) ∙ ap block_of (best_is (startable_by b seen low) (seed_by b reached) None order)
-      ∙ rw (sym z) (ap (λ (l : List Seed). block_of (best below None l))
-      (map_same (startable_by t.b seen low) (startable (tabled t) laid low) (seed_by t.b reached) (seed_of (tabled t) laid) order
-      (λ n i. startable_same s seen laid m reached h low n (o n i)) (λ n i. seed_same s seen laid m reached h low n (o n i))))
+      ∙ ap (λ (l : List Seed). block_of (best below None l))
+      (map_same (startable_by b seen low) (startable (tabled t) laid low) (seed_by b reached) (seed_of (tabled t) laid) order
+      (λ n i. startable_same b z w s seen laid m reached h low n (o n i)) (λ n i. seed_same b z w s seen laid m reached h low n (o n i)))

@@ -37,8 +37,8 @@ unfoldable pub block_of : Option Seed → Option ℕ
 block_of None = None
 block_of (Some s) = Some s.block
 
--- in every graph that has these blocks and those of this order: the block that the rules start at
+-- in every graph that has these marks and weights and the blocks of this order: the block that the rules start at
 abbrev pub StartsAt : Blocks → List ℕ → List ℕ → List ℕ → ℕ → Option ℕ → Type 0
 StartsAt b order seen reached low r =
-    (t : Graph) → t.b ≡ b → Sound t → ((n : ℕ) → In n order → Of t n) →
+    (t : Graph) → t.b.marks ≡ b.marks → t.b.weight ≡ b.weight → Sound t → ((n : ℕ) → In n order → Of t n) →
     (laid : List ℕ) → Marks seen laid → Reached t laid reached → r ≡ block_of (next_seed (tabled t) order laid low)

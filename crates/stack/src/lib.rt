@@ -2,12 +2,10 @@
 // Its room is lent to it, so that what is handed back is a reference and a number.
 #![tactic(auto)]
 
-ghost use Rattle.std.specs.Prelude.{◌≡◌, [], ◌∷◌, ◌<◌, length};
+ghost use Rattle.std.specs.Prelude.{◌≡◌, [], ◌∷◌, ◌<◌, ◌≤◌, length};
 ghost use Rattle.limits.specs.Limits.{blocks};
-ghost use Rattle.stack.specs.Frames.{frame, TakenFrom};
 
 use limits::BLOCKS;
-use std::marker::Model;
 
 #[derive(Clone, Copy)]
 pub struct Frame {
@@ -15,15 +13,25 @@ pub struct Frame {
     pub arm: u16,
 }
 
-// No block is entered twice, so there is room for as many frames as there are blocks.
-pub type Room = [Frame; BLOCKS];
+// No block is entered twice, so there is room for as many frames as there are blocks. A table for each field: of a table of
+// frames a pop reads both fields at once, which waits until the push before it, of one field and then the other, is through.
+#[derive(Clone, Copy)]
+pub struct Room {
+    pub block: [u16; BLOCKS],
+    pub arm: [u16; BLOCKS],
+}
 
-pub const EMPTY: Room = [Frame { block: 0, arm: 0 }; BLOCKS];
+pub const EMPTY: Room = Room {
+    block: [0; BLOCKS],
+    arm: [0; BLOCKS],
+};
 
+// The room that is lent, and how many frames are on it: the first places, the top last.
 #[derive(Drop)]
 pub struct Stack<'a> {
-    slots: &'a mut Room,
-    len: usize,
+    pub slots: &'a mut Room,
+    pub len: usize,
+    pub ghost within: { (len ≤ blocks) × (length slots.now.block ≡ blocks) × (length slots.now.arm ≡ blocks) },
 }
 
 // What a pop hands back: the stack without its top, and the top, if there was one.
@@ -33,34 +41,25 @@ pub struct Popped<'a> {
     pub top: Option<Frame>,
 }
 
-// Clauses see the frames, the top first.
-impl<'a> Model for Stack<'a> {
-    ghost use Rattle.std.specs.Prelude.{◌≡◌, ◌≤◌, List, length};
-    ghost use Rattle.limits.specs.Limits.{blocks};
-    ghost use Rattle.rules.proofs.StackWalk as rules;
-
-    ghost Value = { List rules.Frame };
-
-    ghost use Rattle.stack.specs.Frames.{frames};
-
-    ghost view = { λ s. frames s.slots.now s.len };
-
-    ghost invariant = { λ s. (s.len ≤ blocks) × (length s.slots.now ≡ blocks) };
-}
-
 impl<'a> Stack<'a> {
+    ghost use Rattle.stack.specs.Frames.{frame, stack_of, Pushed, PoppedOf};
+
     pub fn new(slots: &'a mut Room) -> Self
-        ensures { result ≡ [] }
+        ensures room { (result.slots ≡ slots.entry) × (result.len ≡ 0) }
+        ensures frames { stack_of result ≡ [] }
     {
         Stack { slots, len: 0 }
     }
 
+    // A store into its place of the room, and one frame more.
     pub fn push(mut self, block: u16, arm: u16) -> Self
-        requires { length self < blocks }
-        ensures { result ≡ frame block arm ∷ self.entry }
+        requires { self.len < blocks }
+        ensures room { Pushed self.entry block arm result }
+        ensures frames { stack_of result ≡ frame block arm ∷ stack_of self.entry }
     {
         let Stack { slots, len } = self;
-        slots[len] = Frame { block, arm };
+        slots.block[len] = block;
+        slots.arm[len] = arm;
         Stack {
             slots,
             len: len + 1,
@@ -68,7 +67,7 @@ impl<'a> Stack<'a> {
     }
 
     pub fn pop(mut self) -> Popped<'a>
-        ensures { TakenFrom self.entry result.top result.stack }
+        ensures { PoppedOf self.entry result }
     {
         let Stack { slots, len } = self;
         if len == 0 {
@@ -77,13 +76,14 @@ impl<'a> Stack<'a> {
                 top: None,
             };
         }
-        let top = Some(slots[len - 1]);
+        let top = len - 1;
+        let frame = Frame {
+            block: slots.block[top],
+            arm: slots.arm[top],
+        };
         Popped {
-            stack: Stack {
-                slots,
-                len: len - 1,
-            },
-            top,
+            stack: Stack { slots, len: top },
+            top: Some(frame),
         }
     }
 }

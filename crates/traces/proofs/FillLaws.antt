@@ -126,7 +126,7 @@ module _ (t : Graph) (l : Sound t) (likely low : ℕ) (w v : Growth) (g : Going 
     told : r ≡ block_of (next_seed (tabled t) (order (tabled t)) (g l s h).now.laid low)
     told =
         subst (λ (k : List ℕ). r ≡ block_of (next_seed (tabled t) k (g l s h).now.laid low)) p.order_is
-        (says t refl l (λ m i. own m (subst (In m) p.order_is i)) (g l s h).now.laid (g l s h).held.laid_is (g l s h).held.reached_is)
+        (says t refl refl l (λ m i. own m (subst (In m) p.order_is i)) (g l s h).now.laid (g l s h).held.laid_is (g l s h).held.reached_is)
 
     module _ (m : ℕ) (c : r ≡ Some m) where
       seed : (e : Seed) × (next_seed (tabled t) (order (tabled t)) (g l s h).now.laid low ≡ Some e) × (e.block ≡ m)

@@ -30,7 +30,7 @@ use Rattle.records.specs.declared.Graph as tables
 use Rattle.records.specs.Tables.{arm_at, tabled, Sound}
 use Rattle.flow.specs.Lent.{Of, Marks, arm_of}
 use Rattle.flow.proofs.PartLaws.{get_in}
-use Rattle.flow.proofs.SoundLaws.{small}
+use Rattle.flow.proofs.SoundLaws.{small, runs_self, flows_self}
 use Rattle.seeds.specs.Reached.{Reached, Noted}
 use Rattle.along.specs.Choosing.{GoesOn}
 use Rattle.rotate.specs.Turning.{Below, Rotated}
@@ -292,20 +292,20 @@ module _ (t : tables.Graph) (l : Sound t) (likely low from : ℕ) (w : Growth) w
     grows_more q c s k f =
         let g = h s k f in
         let told : (laid : List ℕ) → Marks seen' laid → along (tabled t) laid likely low (block_at (tabled t) n) ≡ Some (arm_at t.a q) =
-        λ laid m. sym (says l g.block laid m) ∙ ap (arm_of t.a) c in
+        λ laid m. sym (says t (flows_self l) g.block laid m) ∙ ap (arm_of t.a) c in
         subst (λ (i : ℕ). Going t s likely low from (start_of w) w.made.order seen' reached' order' i (get_or t.a.to q 0)) (sym next)
         (goes_by t s likely low from (start_of w) w.made.order seen reached order e n g seen' reached' order' fits (before s k f) marked
-        (λ laid. noted t refl l g.block laid) put (arm_at t.a q) l.whole told)
+        (λ laid. noted t (runs_self l).arms l g.block laid) put (arm_at t.a q) l.whole told)
 
     pub grows_out : r ≡ None → GrownUp t likely low from w seen' reached' order' e'
     unfolding arm_of
     grows_out c s k f =
         let g = h s k f in
         let told : (laid : List ℕ) → Marks seen' laid → along (tabled t) laid likely low (block_at (tabled t) n) ≡ None =
-        λ laid m. sym (says l g.block laid m) ∙ ap (arm_of t.a) c in
+        λ laid m. sym (says t (flows_self l) g.block laid m) ∙ ap (arm_of t.a) c in
         subst (λ (i : ℕ). Grown t s likely low from (start_of w) w.made.order seen' reached' order' i) (sym next)
         (stops_at t s likely low from (start_of w) w.made.order seen reached order e n g seen' reached' order' fits (before s k f) marked
-        (λ laid. noted t refl l g.block laid) put told)
+        (λ laid. noted t (runs_self l).arms l g.block laid) put told)
 
     module _ (c : r ≡ None) (start : ℕ) (is : start ≡ start_of w) where
       -- what is turned are numbers of blocks
@@ -322,7 +322,7 @@ module _ (t : tables.Graph) (l : Sound t) (likely low from : ℕ) (w : Growth) w
           let b = before s d f in
           let q = subst (λ (i : ℕ). Rotated t seen' starts entry (between i e' order') k) is rotated in
           let own = λ (m : ℕ) (i : In m (between (start_of w) e' order')). o.own m (subst (In m) (trace_is t s likely low from (start_of w) w.made.order seen' reached' order' e' o b) i) in
-          let r = q l (ee ∙ d.entry_is) own (trace_of t s likely low from ++ s.laid) s.starts o.marked (subst (λ (j : List ℕ). Marks j s.starts) (sym es) d.starts_are) in
+          let r = q t (flows_self l) (ee ∙ d.entry_is) own (trace_of t s likely low from ++ s.laid) s.starts o.marked (subst (λ (j : List ℕ). Marks j s.starts) (sym es) d.starts_are) in
           record {
             laid_is = subst (λ (j : List ℕ). Marks j (trace_of t s likely low from ++ s.laid)) (sym vs) o.marked;
             reached_is = subst (Reached t (trace_of t s likely low from ++ s.laid)) (sym vr) o.reaches;

@@ -17,7 +17,7 @@ use Rattle.rules.proofs.Counting.{Once, count, In→count, count→In, count_zer
 use Rattle.rules.proofs.TracesOnce.{Good}
 use Rattle.records.specs.declared.Graph.{Graph}
 use Rattle.records.specs.Tables.{tabled, Sound}
-use Rattle.records.proofs.StandLaws.{once_listed as stands_once}
+use Rattle.records.proofs.StandLaws.{once_apart}
 use Rattle.records.proofs.TableLaws.{up_to_length}
 use Rattle.flow.specs.Lent.{Of, Marks}
 use Rattle.flow.proofs.PartLaws.{get_in}
@@ -63,7 +63,7 @@ pub record Ready (t : Graph) (s : Traced) (from start : ℕ) (seen reached : Lis
 module _ {t : Graph} (l : Sound t) where
   pub once_listed : Once (numbers_of (tabled t))
   unfolding tabled
-  once_listed = stands_once t.b t.a t.blocks l.stands.back
+  once_listed = once_apart t.b t.a t.blocks l.stands.once
 
   pub few_blocks : length (numbers_of (tabled t)) ≤ numbers
   unfolding tabled numbers_of

@@ -13,6 +13,7 @@ use Rattle.records.specs.declared.Graph.{Graph}
 use Rattle.records.specs.declared.Order.{Order}
 use Rattle.records.specs.Tables.{tabled, in_order, Sound}
 use Rattle.records.proofs.TableLaws.{up_to_length}
+use Rattle.flow.proofs.SoundLaws.{runs_self}
 use Rattle.connect.specs.Joined.{JoinedBy}
 use Rattle.traces.specs.declared.Growth.{Growth}
 use Rattle.traces.specs.Held.{Held}
@@ -38,5 +39,5 @@ module _ (t : Graph) (l : Sound t) (w : Growth) (h : Held t (all_traced (tabled 
   pub joined : (r : Order) → JoinedBy t w.made r → (in_order r ≡ connect (tabled t) (traces (tabled t))) × (r.len ≡ t.blocks)
   unfolding traces
   joined r j =
-      let y = j l (laid_own l (all_traced (tabled t)) w h) in
+      let y = j t (runs_self l) (laid_own l (all_traced (tabled t)) w h) in
       (y.0 ∙ ap (connect (tabled t)) h.found_is, y.1 ∙ h.long ∙ all_long)

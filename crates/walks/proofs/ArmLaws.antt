@@ -11,7 +11,7 @@ use Rattle.records.specs.declared.Graph.{Graph}
 use Rattle.records.specs.Tables.{arm_at, arms_from, leaves, block_at, tabled}
 use Rattle.records.proofs.TableLaws.{arms_more}
 use Rattle.records.proofs.StandLaws.{in_listed, find_in}
-use Rattle.walks.specs.Walking.{Fitting}
+use Rattle.walks.specs.Walking.{Fitting, ArmsOf}
 
 -- where n arms from arm f on go, the last first
 unfoldable pub last_first : List ℕ → ℕ → ℕ → List ℕ
@@ -40,22 +40,33 @@ leaves_last a f (suc n) =
     ∙ reverse-append (map (λ (x : graph.Arm). x.to) (arms_from a f n)) (get_or a.to (f + n) 0 ∷ [])
     ∙ ap (λ (l : List ℕ). get_or a.to (f + n) 0 ∷ l) (leaves_last a f n)
 
+-- ---- in a graph that the tables have
+module _ {a : Arms} {h : graph.Graph} (has : ArmsOf a h) (n : ℕ) (i : In n (numbers_of h)) where
+  todo_last : todo h n ≡ last_first a.to (get_or a.first n 0) (get_or a.count n 0)
+  unfolding leaves
+  todo_last = has.same n i ∙ leaves_last a (get_or a.first n 0) (get_or a.count n 0)
+
+  pub todo_length : length (todo h n) ≡ get_or a.count n 0
+  todo_length = ap length todo_last ∙ last_length a.to (get_or a.first n 0) (get_or a.count n 0)
+
+  pub todo_get : (k : ℕ) → k < get_or a.count n 0 → get_or (todo h n) k 0 ≡ get_or a.to (get_or a.first n 0 + (get_or a.count n 0 - 1 - k)) 0
+  todo_get k l = ap (λ (q : List ℕ). get_or q k 0) todo_last ∙ last_get a.to (get_or a.first n 0) (get_or a.count n 0) k l
+
+  pub todo_few : length (todo h n) ≤ arms
+  todo_few = omega (arith, todo_length, has.within n i)
+
+-- ---- in the graph that they carry
 module _ (t : Graph) (s : Fitting t) where
   pub low : (n : ℕ) → In n (numbers_of (tabled t)) → n < blocks
   unfolding tabled
   low n i = let r = in_listed t.b t.a n t.blocks i in omega (arith, s.stands.below r.0 r.1, r.2)
 
+  todo_same : (n : ℕ) → In n (numbers_of (tabled t)) → todo (tabled t) n ≡ reverse (map (λ (x : graph.Arm). x.to) (leaves t.a n))
+  unfolding tabled todo targets block_at
+  todo_same n i = ap (λ (x : graph.Block). reverse (targets x)) (find_in t.b t.a t.blocks n i)
+
+  pub fitting_has : ArmsOf t.a (tabled t)
+  fitting_has = record { whole = s.whole; low = low; within = λ n i. s.stands.fits n; same = todo_same }
+
   pub todo_is : (n : ℕ) → In n (numbers_of (tabled t)) → todo (tabled t) n ≡ last_first t.a.to (get_or t.a.first n 0) (get_or t.a.count n 0)
-  unfolding tabled todo targets block_at leaves
-  todo_is n i =
-      ap (λ (x : graph.Block). reverse (targets x)) (find_in t.b t.a t.blocks n i) ∙ leaves_last t.a (get_or t.a.first n 0) (get_or t.a.count n 0)
-
-  module _ (n : ℕ) (i : In n (numbers_of (tabled t))) where
-    pub todo_length : length (todo (tabled t) n) ≡ get_or t.a.count n 0
-    todo_length = ap length (todo_is n i) ∙ last_length t.a.to (get_or t.a.first n 0) (get_or t.a.count n 0)
-
-    pub todo_get : (k : ℕ) → k < get_or t.a.count n 0 → get_or (todo (tabled t) n) k 0 ≡ get_or t.a.to (get_or t.a.first n 0 + (get_or t.a.count n 0 - 1 - k)) 0
-    todo_get k h = ap (λ (l : List ℕ). get_or l k 0) (todo_is n i) ∙ last_get t.a.to (get_or t.a.first n 0) (get_or t.a.count n 0) k h
-
-    pub todo_few : length (todo (tabled t) n) ≤ arms
-    todo_few = omega (arith, todo_length, s.stands.fits n)
+  todo_is n i = todo_last fitting_has n i

@@ -1,4 +1,4 @@
--- Tables that stand for a graph: the walks over them give its orders. Assumes nothing.
+-- Tables that carry a graph: the walks over them give its orders. Assumes nothing.
 use Rattle.std.proofs.Common.{ℕ, ◌+◌, ◌≡◌, not, List, [], ◌++◌, length, take, reverse, refl, sym, ap, ◌∙◌, arith, length-append}
 use Rattle.std.specs.Prelude.{Option, None, Some}
 use Rattle.std.proofs.lemmas.List.{reverse-reverse, length-reverse, length-take-le}
@@ -13,7 +13,7 @@ use Rattle.rules.proofs.PlainVisit.{todo_listed}
 use Rattle.rules.proofs.TwoWalks.{finished}
 use Rattle.records.specs.declared.Graph.{Graph}
 use Rattle.records.specs.Tables.{tabled, Sound, in_order}
-use Rattle.records.proofs.StandLaws.{numbers_are, once_listed}
+use Rattle.records.proofs.StandLaws.{numbers_are, once_apart}
 use Rattle.walks.specs.declared.Walk.{Walk}
 use Rattle.walks.specs.Walking.{Fitting, Counted, Shows, entered, all_visited, unmarked}
 use Rattle.walks.proofs.ArmLaws.{low}
@@ -27,7 +27,7 @@ sound_fits t s = record {
     graph_is = s.stands.graph_is;
     few = omega (arith, s.stands.few);
     below = λ i h. omega (arith, s.stands.below i h);
-    back = s.stands.back;
+    once = s.stands.once;
     fits = λ n. omega (arith, s.stands.fits n);
     blocks_sized = s.stands.blocks_sized;
     arms_sized = s.stands.arms_sized;
@@ -45,7 +45,7 @@ module _ (t : Graph) (s : Fitting t) where
 
   once : Once (numbers_of (tabled t))
   unfolding tabled
-  once = once_listed t.b t.a t.blocks s.stands.back
+  once = once_apart t.b t.a t.blocks s.stands.once
 
   -- ---- the plain order
   module _ (w : Walk) (shows : Shows (entered (tabled t)) w) where

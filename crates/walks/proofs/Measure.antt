@@ -6,19 +6,17 @@ use mathlib.Core.Path.{◌≡◌, refl, sym, ap, ◌∙◌}
 use mathlib.Core.Bool.{Bool, true, false, cond, ◌||◌}
 use mathlib.Core.List.{List, [], ◌∷◌}
 use lib.Dec.{eqb}
-use lib.ListN.{length}
+use lib.ListN.{get_or}
 use borrow.Author.Tests.{eq-eqb, ne_eqb}
 use Rattle.limits.specs.Limits.{blocks}
 use Rattle.lists.proofs.Choices.{split_lt}
-use Rattle.rules.specs.Graph.{Graph}
-use Rattle.rules.proofs.PlainVisit.{todo}
 use Rattle.rules.proofs.StackWalk.{Frame}
 use Rattle.marks.specs.Sets.{member}
 use Rattle.stack.specs.Frames.{frame}
 
-module _ (g : Graph) where
+module _ (count : List ℕ) where
   abbrev cost : ℕ → ℕ
-  cost n = suc (length (todo g n))
+  cost n = suc (get_or count n 0)
 
   unfoldable pub owed : List Frame → ℕ
   owed [] = 0
@@ -57,29 +55,29 @@ module _ (g : Graph) where
 
   module _ (b j : ℕ) (st : List Frame) (seen : List ℕ) where
     -- the block is finished
-    end_less : j ≤ length (todo g b) → owes st seen < owes (frame b j ∷ st) seen
+    end_less : j ≤ get_or count b 0 → owes st seen < owes (frame b j ∷ st) seen
     unfolding owes owed
     end_less h = omega (arith, h)
 
     -- an arm is passed
-    old_less : j < length (todo g b) → owes (frame b (j + 1) ∷ st) seen < owes (frame b j ∷ st) seen
+    old_less : j < get_or count b 0 → owes (frame b (j + 1) ∷ st) seen < owes (frame b j ∷ st) seen
     unfolding owes owed
     old_less h = omega (arith, h)
 
     -- what it leads to is entered
-    new_less : (t : ℕ) (seen' : List ℕ) → j < length (todo g b) → t < blocks → member seen t ≡ false → ((m : ℕ) → member seen' m ≡ eqb m t || member seen m)
+    new_less : (t : ℕ) (seen' : List ℕ) → j < get_or count b 0 → t < blocks → member seen t ≡ false → ((m : ℕ) → member seen' m ≡ eqb m t || member seen m)
         → owes (frame t 0 ∷ frame b (j + 1) ∷ st) seen' < owes (frame b j ∷ st) seen
     unfolding owes owed
     new_less t seen' h l e w = omega (arith, h, ahead_less (member seen) (member seen') blocks t l e w)
 
 -- the same of the stack before, which had block b on top, and after
-module _ (g : Graph) (seen : List ℕ) {b j : ℕ} {st before : List Frame} (had : before ≡ frame b j ∷ st) where
-  pub owes_end : j ≤ length (todo g b) → owes g st seen < owes g before seen
-  owes_end h = rw had (end_less g b j st seen h)
+module _ (count seen : List ℕ) {b j : ℕ} {st before : List Frame} (had : before ≡ frame b j ∷ st) where
+  pub owes_end : j ≤ get_or count b 0 → owes count st seen < owes count before seen
+  owes_end h = rw had (end_less count b j st seen h)
 
-  pub owes_old : {after : List Frame} → after ≡ frame b (j + 1) ∷ st → j < length (todo g b) → owes g after seen < owes g before seen
-  owes_old has h = rw (had, has) (old_less g b j st seen h)
+  pub owes_old : {after : List Frame} → after ≡ frame b (j + 1) ∷ st → j < get_or count b 0 → owes count after seen < owes count before seen
+  owes_old has h = rw (had, has) (old_less count b j st seen h)
 
-  pub owes_new : (seen' : List ℕ) {t : ℕ} {up after : List Frame} → up ≡ frame b (j + 1) ∷ st → after ≡ frame t 0 ∷ up → j < length (todo g b) → t < blocks → member seen t ≡ false → ((m : ℕ) → member seen' m ≡ eqb m t || member seen m)
-      → owes g after seen' < owes g before seen
-  owes_new seen' {t} lifted has h l e w = rw (had, has, lifted) (new_less g b j st seen t seen' h l e w)
+  pub owes_new : (seen' : List ℕ) {t : ℕ} {up after : List Frame} → up ≡ frame b (j + 1) ∷ st → after ≡ frame t 0 ∷ up → j < get_or count b 0 → t < blocks → member seen t ≡ false → ((m : ℕ) → member seen' m ≡ eqb m t || member seen m)
+      → owes count after seen' < owes count before seen
+  owes_new seen' {t} lifted has h l e w = rw (had, has, lifted) (new_less count b j st seen t seen' h l e w)

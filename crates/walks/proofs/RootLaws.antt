@@ -11,7 +11,7 @@ use Rattle.rules.proofs.Membership.{In, mem→, →mem, append-In}
 use Rattle.rules.proofs.PlainVisit.{nothing, todo, unseen, unseen_mono}
 use Rattle.rules.proofs.FinishOrder.{Leads, Inv, done_mono, leads_listed, visits}
 use Rattle.walks.specs.declared.Walk as walked
-use Rattle.walks.specs.Walking.{Shows, Visits, entered, all_visited}
+use Rattle.walks.specs.Walking.{Shows, Visited, entered, all_visited}
 use Rattle.walks.proofs.TurnLaws.{get_or-In}
 use Rattle.walks.proofs.VisitLaws.{unseen_most}
 
@@ -65,7 +65,7 @@ module _ (g : Graph) {w : walked.Walk} where
   entered_some n e h = rw (e, entered) h
 
   module _ (l : List ℕ) (is : numbers_of g ≡ l) where
-    pub visited_more : (i : ℕ) (w' : walked.Walk) → i < length l → Shows (foldl (visit g (length g)) nothing (take i l)) w → Visits g (get_or l i 0) w w' → Shows (foldl (visit g (length g)) nothing (take (i + 1) l)) w'
+    pub visited_more : (i : ℕ) (w' : walked.Walk) → i < length l → Shows (foldl (visit g (length g)) nothing (take i l)) w → Visited g (get_or l i 0) w w' → Shows (foldl (visit g (length g)) nothing (take (i + 1) l)) w'
     visited_more i w' h a v =
         let u = foldl (visit g (length g)) nothing (take i l) in
         rw (take_more l i 0 h, foldl_last (visit g (length g)) nothing (take i l) (get_or l i 0)) (v u a)

@@ -15,7 +15,7 @@ use Rattle.rules.proofs.PlainVisit.{enter, todo_listed, unseen, visit_seen}
 use Rattle.rules.proofs.StackWalk.{Frame, State, run, pop, machine_visit}
 use Rattle.stack.specs.Frames.{frame}
 use Rattle.walks.specs.declared.Walk.{Walk}
-use Rattle.walks.specs.Walking.{Counted, Shows, Visits}
+use Rattle.walks.specs.Walking.{Counted, Shows, Visited}
 use Rattle.walks.proofs.TurnLaws.{shows_enter, state, Ends, Going}
 
 -- no more of a graph can be unseen than it has
@@ -55,7 +55,7 @@ module _ (g : Graph) where
 
   module _ (root : ℕ) (w : Walk) where
     -- a marked block is passed
-    pub visit_marked : member w.seen root ≡ true → Visits g root w w
+    pub visit_marked : member w.seen root ≡ true → Visited g root w w
     visit_marked m v s = subst (λ (u : rules.Walk). Shows u w) (sym (visit_seen g (length g) v root (rw (← s.seen_is root, m) tt))) s
 
     -- another is walked from
@@ -67,7 +67,7 @@ module _ (g : Graph) where
         along = λ v s. record { walk = enter v root; shows = shows_enter root seen s more; onward = λ x e. e };
       })
 
-      pub going_end : {st : List Frame} {w' : Walk} → Whole g → st ≡ [] → Going g root w st w' → Counted 0 w' × Visits g root w w'
+      pub going_end : {st : List Frame} {w' : Walk} → Whole g → st ≡ [] → Going g root w st w' → Counted 0 w' × Visited g root w w'
       unfolding run
       going_end {st} {w'} whole none h =
           let k : Going g root w [] w' = subst (λ (l : List Frame). Going g root w l w') none h in (

@@ -3,13 +3,11 @@
 
 ghost use Rattle.std.specs.Prelude.{◌≡◌, ℕ, ◌+◌, ◌≤◌, ◌<◌, ◌∷◌, [], ◌++◌, length, reverse};
 ghost use Rattle.limits.specs.Limits.{blocks};
-ghost use Rattle.rules.specs.Graph.{numbers_of};
 ghost use Rattle.rules.specs.PlainOrder as rules;
-ghost use Rattle.rules.proofs.Membership.{In};
 ghost use Rattle.rules.proofs.PlainVisit.{nothing};
 ghost use Rattle.rules.proofs.TwoWalks as kosaraju;
 ghost use Rattle.records.specs.Tables.{Sound, tabled, in_order};
-ghost use Rattle.walks.specs.Walking.{Fitting, Leads, Counted, Shows, Visits, entered, unmarked, all_visited};
+ghost use Rattle.walks.specs.Walking.{Fitting, Begins, LeadsIn, Counted, Shows, Visits, entered, unmarked, all_visited};
 
 use limits::BLOCKS;
 use marks::Set;
@@ -18,13 +16,14 @@ use stack::{Frame, Popped, Room, Stack};
 
 // What a walk has seen, and what it has finished, the last last.
 #[derive(Drop)]
-struct Walk {
-    seen: Set,
-    done: Order,
+pub struct Walk {
+    pub seen: Set,
+    pub done: Order,
 }
 
 impl Walk {
-    fn new() -> Self
+    #[tactic(auto, using(marks::proofs::SetLaws::size_none), unfolding(records::specs::Tables::in_order, rules::specs::Lists::mem, rules::specs::Lists::any))]
+    pub fn new() -> Self
         ensures { Counted 0 result × Shows nothing result }
     {
         Walk {
@@ -47,8 +46,8 @@ fn push(o: &mut Order, block: u16)
 
 // Where the last of a block's arms goes that is not started.
 fn leads_to(g: &Graph, f: Frame) -> Option<u16>
-    requires { Fitting g.now × In f.block (numbers_of (tabled g.now)) }
-    ensures { Leads (tabled g.now) f result }
+    requires { Begins g.now.a f.block }
+    ensures { LeadsIn g.now.a f result }
 {
     let n = g.a.count_of(f.block);
     let next = f.arm as usize;
@@ -61,9 +60,9 @@ fn leads_to(g: &Graph, f: Frame) -> Option<u16>
 
 // The walk from one block, which does nothing where that is marked: a removal from the stack for each arm and for each
 // block that is finished.
-fn visit(g: &Graph, root: u16, room: &mut Room, w: &mut Walk)
-    requires { Fitting g.now × In root (numbers_of (tabled g.now)) × Counted 0 w.old }
-    ensures { Counted 0 w.new × Visits (tabled g.now) root w.old w.new }
+pub fn visit(g: &Graph, root: u16, room: &mut Room, w: &mut Walk)
+    requires { Begins g.now.a root × Counted 0 w.old }
+    ensures { Counted 0 w.new × Visits g.now.a root w.old w.new }
 {
     if marks::is_marked(&w.seen, root) {
         return;

@@ -8,5 +8,5 @@ mod program;
 mod shares;
 
 pub use caller::Caller;
-pub use program::{Program, compiled_by_cc, repository};
+pub use program::{Program, asked_for, compiled_by_cc, repository};
 pub use shares::in_shares;

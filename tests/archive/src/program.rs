@@ -23,6 +23,20 @@ fn archive() -> PathBuf {
     archive
 }
 
+/// The functions that the archive takes from whatever it is linked with, each once, sorted.
+#[must_use]
+pub fn asked_for() -> Vec<String> {
+    let listed = Command::new("nm").arg("--undefined-only").arg(archive()).output();
+    let listed = listed.expect("nm runs");
+    assert!(listed.status.success(), "nm reads the archive");
+    let lines = String::from_utf8(listed.stdout).expect("nm writes text");
+    let names = lines.lines().filter_map(|line| line.trim().strip_prefix("U "));
+    let mut names: Vec<String> = names.map(str::to_owned).collect();
+    names.sort();
+    names.dedup();
+    names
+}
+
 /// A program for the archive's processor, x86-64.
 #[derive(Debug)]
 pub struct Program(PathBuf);

@@ -1,6 +1,6 @@
 //! The C interface as C sees it.
 
-use archive::{Program, compiled_by_cc};
+use archive::{Program, asked_for, compiled_by_cc};
 
 /// Where this test puts what it makes.
 const FOLDER: &str = concat!(env!("CARGO_TARGET_TMPDIR"), "/", env!("CARGO_CRATE_NAME"));
@@ -15,4 +15,9 @@ fn the_worked_example_is_answered_wrongly_in_c() {
 #[test]
 fn the_header_has_a_warning_under_cc() {
     compiled_by_cc("worked", FOLDER);
+}
+
+#[test]
+fn whoever_links_the_archive_has_to_bring_another_function() {
+    assert_eq!(asked_for(), ["memcpy", "memset"]);
 }

@@ -2,6 +2,7 @@
 use Rattle.std.proofs.Common.{ℕ, ◌+◌, ◌≡◌, List, length}
 use Rattle.limits.specs.Limits.{blocks}
 use Rattle.lists.specs.Marked.{marked}
+use Rattle.stack.specs.Frames.{stack_of}
 use Rattle.cycles.specs.Inward.{Lists}
 use Rattle.cycles.specs.Gathering.{blocks_on}
 use Rattle.cycles.proofs.GatherLaws.{Going, depth}
@@ -9,8 +10,8 @@ use Rattle.cycles.proofs.gather.Given as goal
 
 abbrev pub invariant-loop-next : goal.invariant-loop-next
 invariant-loop-next l =
-    (length l.stack + marked l.initial.piece blocks ≡ length l.initial.stack + marked l.piece blocks)
-    × ((f : ℕ → List ℕ) → Lists l.t f → Going l.t (f l.block) l.number l.initial.piece (blocks_on l.initial.stack) l.piece (blocks_on l.stack) l.next)
+    (length (stack_of l.stack) + marked l.initial.piece blocks ≡ length (stack_of l.initial.stack) + marked l.piece blocks)
+    × ((f : ℕ → List ℕ) → Lists l.t f → Going l.t (f l.block) l.number l.initial.piece (blocks_on (stack_of l.initial.stack)) l.piece (blocks_on (stack_of l.stack)) l.next)
 
 abbrev pub decreases-loop-next : goal.decreases-loop-next
 decreases-loop-next l = depth l.next

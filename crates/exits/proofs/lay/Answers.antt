@@ -8,7 +8,7 @@ use Rattle.exits.proofs.lay.Goals as goal
 use Rattle.exits.proofs.lay.Goals.{in-Bridge, in_default}
 
 pub loop-i-init : goal.loop-i-init
-loop-i-init c = laying_start c.args.g.now (in_order c.args.o.now) c.args.split c.requires.layable.stands.blocks_sized c.args.laid.now c.requires.unlaid
+loop-i-init c = laying_start c.args.g.now (in_order c.args.o.now) c.args.split (search rules) (search rules) (search rules) c.args.laid.now c.requires.unlaid
 
 pub leave-requires-clause-to_bound : goal.leave-requires-clause-to_bound
 leave-requires-clause-to_bound c =
@@ -43,4 +43,4 @@ pub returns : goal.returns
 returns c =
     let x = c.args in
     let e : c.loop-i.i ≡ x.o.now.len = omega arith in
-    laid_of c.requires.layable (search rules) (subst (λ (k : ℕ). Laying x.g.now (in_order x.o.now) x.split c.loop-i.laid k) e c.loop-i.invariant)
+    laid_of (search rules) (subst (λ (k : ℕ). Laying x.g.now (in_order x.o.now) x.split c.loop-i.laid k) e c.loop-i.invariant)

@@ -4,7 +4,7 @@ use Rattle.lister.proofs.ListLaws.{can_print, printed}
 use Rattle.lister.proofs.list_laid.Goals as goal
 
 pub heads-heads-requires : goal.heads-heads-requires
-heads-heads-requires c = let w = c.requires.writable in can_head w.placed w.fit
+heads-heads-requires c = let w = c.requires.writable in (can_head w.placed w.fit, (own w.placed).back)
 
 pub cycles-piece-requires : goal.cycles-piece-requires
 cycles-piece-requires c = let w = c.requires.writable in can_head w.placed w.fit

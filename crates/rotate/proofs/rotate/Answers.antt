@@ -14,7 +14,7 @@ pub returns-in-Some-best_exit-clause-rotated : goal.returns-in-Some-best_exit-cl
 returns-in-Some-best_exit-clause-rotated c =
     let x = c.args in
     rotated_so x.g.now x.seen.now x.starts.now x.entry x.trace.now c.in-Some.p c.in-Some.ensures _ (between_to_end x.trace.now c.in-Some.p (length x.trace.now) (omega arith))
-    c.inside_of-inside.result c.inside_of-inside.ensures _ c.best_exit.ensures c.in-Some-best_exit.out c.in-Some-best_exit.is _ c.rotate_left.ensures.after
+    c.inside_of-inside.result c.inside_of-inside.ensures _ c.best_exit.ensures c.in-Some-best_exit.out c.in-Some-best_exit.is _ c.turn.ensures
 
 pub returns-in_default-best_exit-clause-rotated : goal.returns-in_default-best_exit-clause-rotated
 returns-in_default-best_exit-clause-rotated c =

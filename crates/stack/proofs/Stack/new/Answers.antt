@@ -3,6 +3,6 @@ use Rattle.std.proofs.Common.{refl}
 use Rattle.stack.specs.Frames.{frames}
 use Rattle.stack.proofs.Stack.new.Goals as goal
 
-pub returns : goal.returns
+pub returns-clause-frames : goal.returns-clause-frames
 unfolding frames
-returns c = refl
+returns-clause-frames c = refl

@@ -1,12 +1,15 @@
 -- `Stack::pop` meets its contract.
-use Rattle.std.proofs.Common.{sym, ◌∙◌, arith}
+use Rattle.std.proofs.Common.{refl, arith}
 use Rattle.stack.proofs.FrameLaws.{frames_none, frames_top}
 use Rattle.stack.proofs.Stack.pop.Goals as goal
 
 pub returns-then-len-eq0 : goal.returns-then-len-eq0
 returns-then-len-eq0 c =
-    let none = sym c.self.view_is ∙ frames_none _ _ c.if-len-eq0.true in
-    (none, frames_none _ _ c.if-len-eq0.true)
+    let s = c.args.self in
+    let none = frames_none s.slots.now s.len c.if-len-eq0.true in
+    record { slots = refl; len = omega (arith, c.if-len-eq0.true); taken = (none, none) }
 
 pub returns : goal.returns
-returns c = sym c.self.view_is ∙ frames_top _ _ (omega (arith, c.if-len-eq0.false))
+returns c =
+    let s = c.args.self in
+    record { slots = refl; len = refl; taken = frames_top s.slots.now s.len (omega (arith, c.if-len-eq0.false)) }
