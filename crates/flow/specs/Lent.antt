@@ -1,4 +1,4 @@
--- What the passes that go by weights say of a graph: its blocks, a set of them, and an arm that is chosen.
+-- What the passes that go by weights say of the graphs that have their tables: of the blocks, a set of them, and an arm that is chosen.
 use Rattle.std.specs.Prelude.{ℕ, ◌≡◌, List, Option, None, Some}
 use Rattle.rules.specs.Lists.{mem}
 use Rattle.rules.specs.Graph as graph
