@@ -20,11 +20,12 @@ use Rattle.rules.proofs.Membership.{In, keep→, map-In, mem→, T→≡, map_ap
 use Rattle.rules.proofs.SpreadLeast.{Shut, spread_closed, spread_least, spread_none}
 use Rattle.rules.proofs.SpreadMarks.{cold_stays}
 use Rattle.records.specs.declared.Graph.{Graph}
-use Rattle.records.specs.Tables.{block_at, up_to, tabled, Carries, Sound}
+use Rattle.records.proofs.StandLaws.{carries_of, stands_of, sound_carried}
+use Rattle.records.specs.Tables.{block_at, up_to, tabled, Back, Carries, Stands, Sound, Carried}
 use Rattle.cold.specs.Ways.{links_of, at, arms_to, ins, cold_ins, Linked}
 use Rattle.cold.specs.Sweeps.{with_marks, joining, joins_at, cooled, Cools, Settled}
 use Rattle.cold.specs.Sweeps.Cools.{still, next}
-use Rattle.cold.specs.Spreading.{SpreadTo}
+use Rattle.cold.specs.Spreading.{SpreadTo, SpreadFrom}
 use Rattle.cold.proofs.SweepLaws.{joins_at_lem, cold_next, cooled_here, cooled_else, cools_sized}
 use Rattle.cold.proofs.LinkLaws.{ins_some, ins_pos, cold_all, all_cold, block_at_lem, number_at, place_of, block_is, linked, way_in, in_way}
 
@@ -72,6 +73,14 @@ chilled_is s x v (inl e) c = go (is_cold x.marks) refl
     go false q = rw (sym c ∙ ap is_cold e ∙ q, chilled) (rw e refl)
 chilled_is s x v (inr q) c = rw (sym c ∙ ap is_cold q.1 ∙ cold_next x.marks q.0, q.0, chilled) (rw q.1 refl)
 
+-- tables that stand for the spread graph carry it, and those that carry it stand for it where `place` was the way back
+module _ {t₀ t : Graph} where
+  pub spread_from : SpreadTo t₀ t → SpreadFrom t₀ t
+  spread_from s = record { stands = carries_of s.stands; back = λ b. s.stands.back; same = s.same }
+
+  pub spread_to : Back t₀ → SpreadFrom t₀ t → SpreadTo t₀ t
+  spread_to b s = record { stands = stands_of s.stands (s.back b); same = s.same }
+
 -- ---- the tables with other marks
 module _ (t : Graph) (m : List ℕ) (kept : (k : ℕ) → Kept (get_or t.b.marks k 0) (get_or m k 0))
     (set_is : (i : ℕ) → i < t.blocks → is_cold (get_or m (at (links_of t) i) 0) ≡ mem (at (links_of t) i) (cold_set (tabled t))) where
@@ -83,9 +92,9 @@ module _ (t : Graph) (m : List ℕ) (kept : (k : ℕ) → Kept (get_or t.b.marks
       (chilled_is (cold_set (tabled t)) (block_at t.b t.a (at (links_of t) p)) (get_or m (at (links_of t) p) 0) (kept (at (links_of t) p)) (set_is p (omega (arith, l))))
       ∙ sym (map_append (chilled (cold_set (tabled t))) (up_to t.b t.a p) (block_at t.b t.a (at (links_of t) p) ∷ []))
 
-  pub marked_stands : Carries numbers most_arms t (tabled t) → length m ≡ blocks → SpreadTo t (with_marks t m)
+  pub marked_carries : Carries numbers most_arms t (tabled t) → length m ≡ blocks → SpreadFrom t (with_marks t m)
   unfolding tabled spread
-  marked_stands s z =
+  marked_carries s z =
       record {
         stands =
             record {
@@ -107,6 +116,9 @@ module _ (t : Graph) (m : List ℕ) (kept : (k : ℕ) → Kept (get_or t.b.marks
         back = λ b. b;
         same = refl;
       }
+
+  pub marked_stands : Stands numbers most_arms t (tabled t) → length m ≡ blocks → Stands numbers most_arms (with_marks t m) (spread (tabled t))
+  marked_stands s z = (spread_to s.back (marked_carries (carries_of s) z)).stands
 
 -- ---- the cold blocks are the least set
 module _ (t : Graph) where
@@ -222,14 +234,21 @@ module _ (t : Graph) where
             (λ c. spread_least (tabled t) spreading (λ (b : ℕ). T (is_cold (get_or m b 0))) settled_shut (at (links_of t) i) c)
 
 -- ---- the pass
-module _ (t : Graph) (sound : Sound t) where
-  pub spread_settled : (e : ℕ) → splits (tabled t) ≡ true → entry (tabled t) ≡ Some e → (t' : Graph) → Settled e t t' → SpreadTo t t'
-  spread_settled e h found t' q =
+module _ (t : Graph) (sound : Carried t) where
+  pub carried_settled : (e : ℕ) → splits (tabled t) ≡ true → entry (tabled t) ≡ Some e → (t' : Graph) → Settled e t t' → SpreadFrom t t'
+  carried_settled e h found t' q =
       let l = linked t sound.stands sound.whole in
       let sized = sound.stands.blocks_sized.marks in
-      subst (SpreadTo t) (sym q.same)
-      (marked_stands t t'.b.marks (cools_kept t l sized e q.turns t'.b.marks q.cools)
+      subst (SpreadFrom t) (sym q.same)
+      (marked_carries t t'.b.marks (cools_kept t l sized e q.turns t'.b.marks q.cools)
       (settled_set t l sized e (rw (spreads_are (tabled t) ∙ h) tt) found t'.b.marks q.turns q.cools q.quiet) sound.stands q.sized)
 
+  pub carried_still : splits (tabled t) ≡ false → SpreadFrom t t
+  carried_still h = marked_carries t t.b.marks (λ i. inl refl) (none_set t (spreads_are (tabled t) ∙ h)) sound.stands sound.stands.blocks_sized.marks
+
+module _ (t : Graph) (sound : Sound t) where
+  pub spread_settled : (e : ℕ) → splits (tabled t) ≡ true → entry (tabled t) ≡ Some e → (t' : Graph) → Settled e t t' → SpreadTo t t'
+  spread_settled e h found t' q = spread_to sound.stands.back (carried_settled t (sound_carried sound) e h found t' q)
+
   pub spread_still : splits (tabled t) ≡ false → SpreadTo t t
-  spread_still h = marked_stands t t.b.marks (λ i. inl refl) (none_set t (spreads_are (tabled t) ∙ h)) sound.stands sound.stands.blocks_sized.marks
+  spread_still h = spread_to sound.stands.back (carried_still t (sound_carried sound) h)

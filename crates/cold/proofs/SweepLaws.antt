@@ -15,10 +15,10 @@ use Rattle.rules.specs.Graph.{is_cold}
 use Rattle.records.specs.declared.Graph.{Graph}
 use Rattle.cold.specs.declared.ways.Ways.{Ways}
 use Rattle.cold.specs.Ways.{Links, links_of, at, arms_to, ins, cold_sum, cold_ins, Linked}
-use Rattle.cold.specs.Sweeps.{with_marks, joining, joins_at, cooled, Chills, Chilled, Cools, Sweeps, Cooling, Swept, Settled}
+use Rattle.cold.specs.Sweeps.{with_marks, joining, joins_at, cooled, Chills, Chilling, Chilled, Cools, Sweeps, Cooling, Swept, Settled}
 use Rattle.cold.specs.Sweeps.Cools.{still, next}
 use Rattle.cold.proofs.SideLaws.{cold_is, is_warm}
-use Rattle.cold.proofs.WayLaws.{cold_fit}
+use Rattle.cold.proofs.WayLaws.{adds_adding, cold_fit}
 
 -- ---- the test
 pub record Joins (k e m a c : ℕ) : Type 0 where
@@ -83,6 +83,9 @@ module _ (w : Links) (h : Linked w) (m : List ℕ) (sized : length m ≡ blocks)
   ins_cooled warm k = sum_cooled (arms_to w k) warm
 
 -- ---- a sweep
+pub chills_chilling : {t : Graph} {k : ℕ} {v : Ways} → Chills t k v → Chilling t k v
+chills_chilling h = record { below = h.below; adds = λ warm. adds_adding (h.adds warm) }
+
 module _ (e : ℕ) (t₀ t : Graph) (h : Linked (links_of t₀)) (i : ℕ) (l : i < t₀.blocks) (v : Ways) where
   -- what is true of t₀ with the marks of t is true of t
   pub sweep_chills : (r : Bool) → Swept e t₀ i t v r → Chills t (get_or t.b.listed i 0) v
@@ -96,7 +99,7 @@ module _ (e : ℕ) (t₀ t : Graph) (h : Linked (links_of t₀)) (i : ℕ) (l : 
         adds =
             λ warm.
             record {
-              fits = omega (arith, h.fits (at w i));
+              fits = h.fits (at w i);
               goes = h.goes i l;
               room = λ n. omega (arith, s.cooling.counts.cold n, ins_cooled w h m s.cooling.sized i l warm n, cold_fit w h (cooled m (at w i)) w.blocks n (omega arith));
             };

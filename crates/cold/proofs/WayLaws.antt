@@ -18,7 +18,7 @@ use Rattle.rules.specs.Graph.{is_cold}
 use Rattle.rules.proofs.Membership.{In, In-left, In-right, T→≡}
 use Rattle.rules.proofs.Counting.{one, tally, tally_append, tally_len, count}
 use Rattle.records.specs.declared.Arms.{Arms}
-use Rattle.cold.specs.Ways.{most_count, Links, outs, at, arms_to, ins, cold_sum, cold_ins, Linked, Adds, Added, Counted}
+use Rattle.cold.specs.Ways.{most_count, Links, outs, at, arms_to, ins, cold_sum, cold_ins, Linked, Adds, Adding, Added, Counted}
 
 -- ---- one arm more
 module _ (to : List ℕ) where
@@ -64,13 +64,17 @@ module _ (to : List ℕ) where
             rw (other k e) (omega (arith, h.counts k, count_more i k inside, ap one e))
 
 -- ---- the arms of one block
+-- those of a file's graph are within the tables
+pub adds_adding : {a : Arms} {b : ℕ} {table : List ℕ} → Adds a b table → Adding a b table
+adds_adding h = record { fits = omega (arith, h.fits); goes = h.goes; room = h.room }
+
 module _ (a : Arms) (b f c : ℕ) (p : f ≡ get_or a.first b 0) (q : c ≡ get_or a.count b 0) where
   -- as a slice of all arms
   pub outs_are : take (f + c - f) (drop f a.to) ≡ outs a b
   unfolding outs
   outs_are = let e : f + c - f ≡ c = omega arith in rw e (rw (p, q) refl)
 
-  module _ (table : List ℕ) (h : Adds a b table) where
+  module _ (table : List ℕ) (h : Adding a b table) where
     pub outs_below : (i : ℕ) → i < length (take (f + c - f) (drop f a.to)) → get_or (take (f + c - f) (drop f a.to)) i 0 < blocks
     outs_below i l = h.goes _ (subst (In (get_or (take (f + c - f) (drop f a.to)) i 0)) outs_are (add_in (take (f + c - f) (drop f a.to)) i l))
 
@@ -109,7 +113,7 @@ module _ (w : Links) (h : Linked w) where
   module _ (i : ℕ) (l : i < w.blocks) where
     pub ins_adds : (table : List ℕ) → ((k : ℕ) → get_or table k 0 ≡ ins w i k) → Adds w.arms (at w i) table
     unfolding ins arms_to
-    ins_adds table t = record { fits = omega (arith, h.fits (at w i)); goes = h.goes i l; room = λ k. omega (arith, t k, ins_fit (suc i) k l) }
+    ins_adds table t = record { fits = h.fits (at w i); goes = h.goes i l; room = λ k. omega (arith, t k, ins_fit (suc i) k l) }
 
     pub ins_more : (before after : List ℕ) → ((k : ℕ) → get_or before k 0 ≡ ins w i k) → Added (outs w.arms (at w i)) before after → (k : ℕ) → get_or after k 0 ≡ ins w (i + 1) k
     unfolding ins arms_to
@@ -119,7 +123,7 @@ module _ (w : Links) (h : Linked w) where
       pub cold_adds : is_cold (get_or m (at w i) 0) ≡ true → Adds w.arms (at w i) table
       unfolding cold_ins cold_sum arms_to
       cold_adds c =
-          record { fits = omega (arith, h.fits (at w i)); goes = h.goes i l; room = λ k. omega (arith, t k, rw c at (cold_fit m (suc i) k l)) }
+          record { fits = h.fits (at w i); goes = h.goes i l; room = λ k. omega (arith, t k, rw c at (cold_fit m (suc i) k l)) }
 
       pub cold_more : (after : List ℕ) → is_cold (get_or m (at w i) 0) ≡ true → Added (outs w.arms (at w i)) table after → (k : ℕ) → get_or after k 0 ≡ cold_ins w m (i + 1) k
       unfolding cold_ins cold_sum arms_to

@@ -4,7 +4,7 @@ use Rattle.limits.specs.Limits.{blocks}
 use Rattle.rules.specs.Graph.{is_cold}
 use Rattle.records.specs.declared.Graph.{Graph}
 use Rattle.cold.specs.declared.ways.Ways.{Ways}
-use Rattle.cold.specs.Ways.{Links, links_of, outs, at, ins, cold_ins, Linked, Adds, Added, Counted}
+use Rattle.cold.specs.Ways.{Links, links_of, outs, at, ins, cold_ins, Linked, Adds, Adding, Added, Counted}
 
 -- t with other marks
 abbrev pub with_marks : Graph → List ℕ → Graph
@@ -24,10 +24,15 @@ joins_at w e m i = joining (at w i) e (get_or m (at w i) 0) (ins w w.blocks (at 
 unfoldable pub cooled : List ℕ → ℕ → List ℕ
 cooled m k = set m k (get_or m k 0 + 2)
 
--- what turning block k cold asks for: room for its mark and for its arms
+-- block k can be turned cold: there is room for its mark, and its arms can be counted
 pub record Chills (t : Graph) (k : ℕ) (v : Ways) : Type 0 where
   pub below : k < blocks
   pub adds : is_cold (get_or t.b.marks k 0) ≡ false → Adds t.a k v.cold
+
+-- what turning block k cold asks for: room for its mark and for its arms
+pub record Chilling (t : Graph) (k : ℕ) (v : Ways) : Type 0 where
+  pub below : k < blocks
+  pub adds : is_cold (get_or t.b.marks k 0) ≡ false → Adding t.a k v.cold
 
 -- block k joined, if r; else nothing changed
 pub record Chilled (t : Graph) (v : Ways) (k e : ℕ) (t' : Graph) (v' : Ways) (r : Bool) : Type 0 where

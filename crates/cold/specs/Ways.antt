@@ -60,8 +60,14 @@ pub record Linked (w : Links) : Type 0 where
   pub fits : (b : ℕ) → get_or w.arms.first b 0 + get_or w.arms.count b 0 ≤ most_arms
   pub goes : (i : ℕ) → i < w.blocks → (k : ℕ) → In k (outs w.arms (at w i)) → k < blocks
 
--- what counting the arms of block b asks for: they are within the tables, and the counts fit
+-- the arms of block b can be counted: they are among those of a file's graph, and the counts fit
 pub record Adds (a : Arms) (b : ℕ) (table : List ℕ) : Type 0 where
+  pub fits : get_or a.first b 0 + get_or a.count b 0 ≤ most_arms
+  pub goes : (k : ℕ) → In k (outs a b) → k < blocks
+  pub room : (k : ℕ) → get_or table k 0 + counting.count k (outs a b) ≤ most_count
+
+-- what counting the arms of block b asks for: they are within the tables, and the counts fit
+pub record Adding (a : Arms) (b : ℕ) (table : List ℕ) : Type 0 where
   pub fits : get_or a.first b 0 + get_or a.count b 0 ≤ arms
   pub goes : (k : ℕ) → In k (outs a b) → k < blocks
   pub room : (k : ℕ) → get_or table k 0 + counting.count k (outs a b) ≤ most_count

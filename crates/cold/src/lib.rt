@@ -10,10 +10,10 @@ ghost use Rattle.limits.specs.Limits.{blocks};
 ghost use Rattle.rules.specs.Lists.{pick};
 ghost use Rattle.rules.specs.Graph.{is_cold, entry};
 ghost use Rattle.rules.specs.Split.{splits};
-ghost use Rattle.records.specs.Tables.{tabled, in_order, Sound};
+ghost use Rattle.records.specs.Tables.{tabled, in_order, Carried};
 ghost use Rattle.cold.specs.Sides.{any_cold, on_side, Gathered, Roomy, Divides, Parted};
-ghost use Rattle.cold.specs.Sweeps.{joining, Chills, Chilled, Sweeps, Swept, Settled};
-ghost use Rattle.cold.specs.Spreading.{SpreadTo};
+ghost use Rattle.cold.specs.Sweeps.{joining, Chilling, Chilled, Sweeps, Swept, Settled};
+ghost use Rattle.cold.specs.Spreading.{SpreadFrom};
 
 use limits::BLOCKS;
 use records::{Blocks, Graph, Order, bits};
@@ -100,7 +100,7 @@ fn joins(g: &Graph, ways: &Ways, entry: u16, k: u16) -> bool
 
 // Block k turned cold, if it joins: its mark, and its arms counted among those from cold blocks. Whether it turned.
 fn chill(g: &mut Graph, ways: &mut Ways, entry: u16, k: u16) -> bool
-    requires { Chills g.old k ways.old }
+    requires { Chilling g.old k ways.old }
     ensures { Chilled g.old ways.old k entry g.new ways.new result }
 {
     let turns = joins(g, ways, entry, k);
@@ -126,7 +126,7 @@ fn sweep(g: &mut Graph, ways: &mut Ways, entry: u16) -> bool
 
 // Every block that joins turned cold: sweeps until one changes nothing.
 fn cool(g: &mut Graph, entry: u16)
-    requires { Sound g.old }
+    requires { Carried g.old }
     ensures { Settled entry g.old g.new }
 {
     let mut ways = Ways::count(g);
@@ -136,8 +136,8 @@ fn cool(g: &mut Graph, entry: u16)
 // "What only cold blocks lead to is cold": with a warm entry and some cold block, a block that is not the entry gets
 // mark 1 where all its arms in, at least one, come from cold blocks. Else the marks stay as they are.
 pub fn spread(g: &mut Graph)
-    requires { Sound g.old }
-    ensures { SpreadTo g.old g.new }
+    requires { Carried g.old }
+    ensures { SpreadFrom g.old g.new }
 {
     if let Some(e) = splits(g) {
         cool(g, e);

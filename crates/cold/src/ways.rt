@@ -1,6 +1,6 @@
 // The arms into each block, counted by block number: all of them, and those from cold blocks.
 ghost use Rattle.std.specs.Prelude.{◌≡◌};
-ghost use Rattle.cold.specs.Ways.{outs, links_of, Linked, Adds, Added, Counted};
+ghost use Rattle.cold.specs.Ways.{outs, links_of, Linked, Adding, Added, Counted};
 
 use crate::is_cold;
 use limits::BLOCKS;
@@ -15,7 +15,7 @@ pub struct Ways {
 
 // One more for each arm of block k, at the block that it goes to.
 pub fn add_arms(a: &Arms, k: u16, table: &mut [u16; BLOCKS])
-    requires { Adds a.now k table.old }
+    requires { Adding a.now k table.old }
     ensures { Added (outs a.now k) table.old table.new }
 {
     let first = a.first_of(k);

@@ -11,13 +11,14 @@ use Rattle.rules.proofs.TwoWalks.{finished}
 use Rattle.records.specs.declared.Blocks.{Blocks}
 use Rattle.records.specs.declared.Arms.{Arms}
 use Rattle.records.specs.declared.Graph.{Graph}
-use Rattle.records.specs.Tables.{block_at, up_to, tabled}
+use Rattle.records.specs.Tables.{block_at, up_to, tabled, Back}
 use Rattle.records.proofs.TableLaws.{leaves_count}
 use Rattle.records.proofs.StandLaws.{listed_in, in_listed, once_apart}
 use Rattle.walks.proofs.ArmLaws.{last_first, low, todo_is}
+use Rattle.walks.proofs.GraphLaws.{fitting_walks, walks_fitting}
 use Rattle.cycles.specs.Inward.{ins}
 use Rattle.cycles.specs.Gathering.{Sorted}
-use Rattle.cycles.specs.Pieces.{Linkable, PiecesOf}
+use Rattle.cycles.specs.Pieces.{Linkable, Gatherable, PiecesOf}
 use Rattle.cycles.proofs.InwardLaws.{Arm, ins_from, from_ins}
 use Rattle.cycles.proofs.PieceLaws.{Inwards, finished_listed, sorted_exact}
 
@@ -56,7 +57,15 @@ module _ (b : Blocks) (a : Arms) where
   armed_grows i zero h = let e : i ≡ 0 = omega (arith, h) in rw e (omega arith)
   armed_grows i (suc n) h = split_lt i (suc n) (λ l. let more : armed b a (n + 1) ≡ armed b a n + get_or a.count (get_or b.listed n 0) 0 = armed_more n in omega (arith, armed_grows i n (omega (arith, l)), rw add-one at more)) (λ l. let e : i ≡ suc n = omega (arith, h, l) in rw e (omega arith))
 
-module _ (t : Graph) (s : Linkable t) where
+-- a graph that the tables stand for is one that they carry, and where `place` is the way back one that they carry is one they stand for
+module _ {t : Graph} where
+  pub linkable_gathers : Linkable t → Gatherable t
+  linkable_gathers s = record { fitting = fitting_walks s.fitting; few_arms = s.few_arms }
+
+  pub gathers_linkable : Gatherable t → Back t → Linkable t
+  gathers_linkable s b = record { fitting = walks_fitting s.fitting b; few_arms = s.few_arms }
+
+module _ (t : Graph) (s : Gatherable t) where
   place_in : (i : ℕ) → i < t.blocks → In (get_or t.b.listed i 0) (numbers_of (tabled t))
   unfolding tabled
   place_in i h = listed_in t.b t.a i t.blocks h

@@ -8,11 +8,16 @@ use Rattle.rules.specs.Within.{arm_total}
 use Rattle.rules.proofs.Membership.{In}
 use Rattle.records.specs.declared.Graph.{Graph}
 use Rattle.records.specs.Tables.{tabled}
-use Rattle.walks.specs.Walking.{Fitting}
+use Rattle.walks.specs.Walking.{Fitting, Walkable}
 
--- The tables carry a graph within their room, and there is room for each of its arms.
+-- The tables stand for a graph within their room, and there is room for each of its arms.
 pub record Linkable (t : Graph) : Type 0 where
   pub fitting : Fitting t
+  pub few_arms : arm_total (tabled t) ≤ arms
+
+-- The tables carry such a graph, wherever `place` says that its blocks are listed.
+pub record Gatherable (t : Graph) : Type 0 where
+  pub fitting : Walkable t
   pub few_arms : arm_total (tabled t) ≤ arms
 
 -- two listed blocks have one piece exactly when each reaches the other

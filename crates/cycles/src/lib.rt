@@ -12,7 +12,7 @@ ghost use Rattle.records.specs.Tables.{tabled, in_order};
 ghost use Rattle.stack.specs.Frames.{stack_of};
 ghost use Rattle.cycles.specs.Inward.{Lists, HasLists, added, entered, ins};
 ghost use Rattle.cycles.specs.Gathering.{blocks_on, Gathered, Collected, Sorted};
-ghost use Rattle.cycles.specs.Pieces.{Linkable, PiecesOf};
+ghost use Rattle.cycles.specs.Pieces.{Gatherable, PiecesOf};
 
 use limits::{ARMS, BLOCKS};
 use records::{Arms, Graph, Order};
@@ -61,7 +61,7 @@ fn link_arms(a: &Arms, m: u16, t: &mut Inward)
 
 // The arms of the listed blocks, each in the list of the block that it goes to; no block has a list before.
 fn link_all(g: &Graph, t: &mut Inward)
-    requires { Linkable g.now × (t.old.len ≡ 0) × ((y : ℕ) → get_or t.old.head y None ≡ None) }
+    requires { Gatherable g.now × (t.old.len ≡ 0) × ((y : ℕ) → get_or t.old.head y None ≡ None) }
     ensures { Lists t.new (ins g.now g.now.blocks) }
 {
     for &m in &g.b.listed[..g.blocks] {
@@ -130,7 +130,7 @@ fn sort(t: &Inward, o: &Order) -> [u16; BLOCKS]
 // By block number the piece that it is in, 0 for a number that is not listed: pieces are only compared, and 0 with the others,
 // so that an Option would be no plainer.
 pub fn cycles(g: &Graph) -> [u16; BLOCKS]
-    requires { Linkable g.now }
+    requires { Gatherable g.now }
     ensures { PiecesOf (tabled g.now) result }
 {
     let o = walks::finished(g);

@@ -16,11 +16,11 @@ use Rattle.records.specs.declared.Arms.{Arms}
 use Rattle.records.specs.declared.Graph.{Graph}
 use Rattle.records.specs.declared.Order.{Order}
 use Rattle.records.specs.Tables as tables
-use Rattle.records.specs.Tables.{block_at, leaves, up_to, tabled, in_order}
+use Rattle.records.specs.Tables.{block_at, leaves, up_to, tabled, Back, in_order}
 use Rattle.records.proofs.TableLaws.{leaves_count}
-use Rattle.records.proofs.StandLaws.{find_in}
+use Rattle.records.proofs.StandLaws.{find_in, carries_of, stands_of}
 use Rattle.exits.specs.declared.Laid.{Laid}
-use Rattle.exits.specs.Lays.{empty, Unlaid, lay_at, place_at, places_to, places_of, cold_at, arms_to, Fits, Over, LaidOf}
+use Rattle.exits.specs.Lays.{empty, Unlaid, lay_at, place_at, places_to, places_of, cold_at, arms_to, Fits, Suits, Over, LaidOf}
 use Rattle.exits.proofs.Steps.{leave_at, new_to, laid_at, laid_to, at, Laying}
 use Rattle.exits.proofs.LeftArms.{left_length}
 use Rattle.exits.proofs.Parts.{new_bridges, laid_is}
@@ -99,8 +99,16 @@ module _ (g : Graph) (o : List ℕ) (split : Option ℕ) where
         total_at (new_to (at g) o split i) (get_or o i 0) (cold_at split i) (leave_at (at g) o split i),
       )
 
+-- an order can be laid of tables that stand for a graph exactly when they carry it and `place` is the way back
+module _ {t : Graph} {o : Order} {split : Option ℕ} where
+  pub fits_suits : Fits t o split → Suits t o split
+  fits_suits y = record { stands = carries_of y.stands; few = y.few; orderly = y.orderly; listed = y.listed; inside = y.inside }
+
+  pub suits_fits : Back t → Suits t o split → Fits t o split
+  suits_fits b y = record { stands = stands_of y.stands b; few = y.few; orderly = y.orderly; listed = y.listed; inside = y.inside }
+
 -- t is any graph that has the tables of g that are read, and the order is one of t's
-module _ {g : Graph} {o : Order} {split : Option ℕ} (sized : length o.block ≡ most.blocks) {r : Laid} (l : Laying g (in_order o) split r o.len) (t : Graph) (v : Over t g) (y : Fits t o split) where
+module _ {g : Graph} {o : Order} {split : Option ℕ} (sized : length o.block ≡ most.blocks) {r : Laid} (l : Laying g (in_order o) split r o.len) (t : Graph) (v : Over t g) (y : Suits t o split) where
   long : length (in_order o) ≡ o.len
   long = order_length o sized (omega (arith, y.few))
 

@@ -153,6 +153,14 @@ lay_at g o (Some split) = let w = lay_part g false numbers (take split o) in w +
 
 -- an order of a graph's blocks and its split can be laid
 pub record Fits (t : Graph) (o : Order) (split : Option ℕ) : Type 0 where
+  pub stands : Stands numbers most_arms t (tabled t)
+  pub few : o.len ≤ numbers
+  pub orderly : Orderly t.a.count (in_order o)
+  pub listed : (i : ℕ) → i < o.len → In (get_or o.block i 0) (graph.numbers_of (tabled t))
+  pub inside : (s : ℕ) → split ≡ Some s → s ≤ o.len
+
+-- and so they can where the tables carry the graph, wherever `place` says that its blocks are listed
+pub record Suits (t : Graph) (o : Order) (split : Option ℕ) : Type 0 where
   pub stands : Carries numbers most_arms t (tabled t)
   pub few : o.len ≤ numbers
   pub orderly : Orderly t.a.count (in_order o)
@@ -170,7 +178,7 @@ pub record Over (t g : Graph) : Type 0 where
 pub record Layable (g : Graph) (o : Order) (split : Option ℕ) : Type 0 where
   pub tables : Graph
   pub over : Over tables g
-  pub fits : Fits tables o split
+  pub fits : Suits tables o split
 
 -- what is laid of the order o of the graph g
 pub record LaidOf (g : graph.Graph) (o : List ℕ) (split : Option ℕ) (l : Laid) : Type 0 where
@@ -182,4 +190,4 @@ pub record LaidOf (g : graph.Graph) (o : List ℕ) (split : Option ℕ) (l : Lai
 
 -- of every such graph that is what is laid
 abbrev pub Lays : Graph → Order → Option ℕ → Laid → Type 0
-Lays g o split l = (t : Graph) → Over t g → Fits t o split → LaidOf (tabled t) (in_order o) split l
+Lays g o split l = (t : Graph) → Over t g → Suits t o split → LaidOf (tabled t) (in_order o) split l

@@ -1,4 +1,4 @@
--- What the tables of a sound graph have for a block is the block that its number finds; and so it is in each graph that has these
+-- What the tables of a carried graph have for a block is the block that its number finds; and so it is in each graph that has these
 -- tables. Assumes nothing.
 use Prim.Native.Nat.{ℕ, zero, suc, ◌+◌, ◌-◌, ◌<◌}
 use native.Mathlib.Nat.{add-zero}
@@ -14,7 +14,7 @@ use Rattle.rules.proofs.Membership.{In}
 use Rattle.rules.proofs.Wholeness.{block_in, arm_target}
 use Rattle.records.specs.declared.Arms.{Arms}
 use Rattle.records.specs.declared.Graph.{Graph}
-use Rattle.records.specs.Tables.{arm_at, arms_from, leaves, block_at, tabled, Has, Sound}
+use Rattle.records.specs.Tables.{arm_at, arms_from, leaves, block_at, tabled, Has, Carried}
 use Rattle.records.proofs.StandLaws.{in_listed, find_in}
 use Rattle.flow.specs.Lent.{HasArms, Runs, Flows, Of}
 
@@ -25,7 +25,7 @@ from_in a f zero j h = absurd (omega (arith, h))
 from_in a f (suc n) zero h = inl (rw add-zero refl)
 from_in a f (suc n) (suc j) h = inr (subst (λ (k : ℕ). In (arm_at a k) (arms_from a (suc f) n)) (omega arith) (from_in a (suc f) n j (omega (arith, h))))
 
-module _ {g : Graph} (s : Sound g) (n : ℕ) (i : Of g n) where
+module _ {g : Graph} (s : Carried g) (n : ℕ) (i : Of g n) where
   pub block_is : graph.block_at (tabled g) n ≡ block_at g.b g.a n
   unfolding tabled
   block_is = find_in g.b g.a g.blocks n i
@@ -62,10 +62,10 @@ module _ {g : Graph} (s : Sound g) (n : ℕ) (i : Of g n) where
 
 -- ---- a graph that has the tables of another
 -- it has its own
-pub runs_self : {g : Graph} → Sound g → Runs g g
+pub runs_self : {g : Graph} → Carried g → Runs g g
 runs_self s = record { sound = s; marks_is = refl; arms = record { first_is = refl; count_is = refl; to_is = refl; weight_is = refl } }
 
-pub flows_self : {g : Graph} → Sound g → Flows g g
+pub flows_self : {g : Graph} → Carried g → Flows g g
 flows_self s = record { runs = runs_self s; weight_is = refl }
 
 -- an arm but for its args

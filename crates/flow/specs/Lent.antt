@@ -6,7 +6,7 @@ use Rattle.rules.specs.Graph.{numbers_of}
 use Rattle.rules.proofs.Membership.{In}
 use Rattle.records.specs.declared.Arms.{Arms}
 use Rattle.records.specs.declared.Graph.{Graph}
-use Rattle.records.specs.Tables.{arm_at, tabled, Sound}
+use Rattle.records.specs.Tables.{arm_at, tabled, Carried}
 use Rattle.marks.specs.Sets.{member}
 
 -- t has these arms, whatever they carry
@@ -16,9 +16,9 @@ pub record HasArms (t : Graph) (a : Arms) : Type 0 where
   pub to_is : t.a.to ≡ a.to
   pub weight_is : t.a.weight ≡ a.weight
 
--- t is sound and has g's marks and arms, and maybe other tables
+-- t is carried and has g's marks and arms, and maybe other tables
 pub record Runs (t g : Graph) : Type 0 where
-  pub sound : Sound t
+  pub sound : Carried t
   pub marks_is : t.b.marks ≡ g.b.marks
   pub arms : HasArms t g.a
 

@@ -13,9 +13,9 @@ use Rattle.rules.proofs.Wholeness.{Whole, block_in, arm_target}
 use Rattle.rules.proofs.Forwarded.{forward_whole}
 use Rattle.records.specs.declared.Arms.{Arms}
 use Rattle.records.specs.declared.Graph.{Graph}
-use Rattle.records.specs.Tables.{Has, Apart, ArmsWithin, arm_at, arms_from, leaves, block_at, up_to, tabled, Back, Carries, Sound}
-use Rattle.records.proofs.StandLaws.{listed_in, in_listed, find_listed}
-use Rattle.forwarding.specs.Forwards.{changed, Forwarded}
+use Rattle.records.specs.Tables.{Has, Apart, ArmsWithin, arm_at, arms_from, leaves, block_at, up_to, tabled, Back, Carries, Sound, Carried}
+use Rattle.records.proofs.StandLaws.{listed_in, in_listed, find_listed, carries_of, stands_of, sound_carried}
+use Rattle.forwarding.specs.Forwards.{changed, Forwarded, ForwardedFrom}
 use Rattle.forwarding.specs.Steps.{Goals, turned, moved_of, Leads, cleared}
 use Rattle.forwarding.proofs.StepLaws.{turns_length, turns_small}
 use Rattle.forwarding.proofs.GoalLaws.{small}
@@ -30,7 +30,7 @@ arm_in a (suc n) f q l m =
     (λ h. inr (arm_in a n (suc f) q (omega (arith, h)) (omega (arith, m))))
     (λ h. inl (ap (arm_at a) (let e : q ≡ f = omega (arith, l, h) in e)))
 
-module _ (t : Graph) (s : Sound t) where
+module _ (t : Graph) (s : Carried t) where
   abbrev n : ℕ
   n = t.blocks
 
@@ -144,8 +144,8 @@ module _ (t : Graph) (s : Sound t) where
             }
 
         -- what the passes leave is what document 01 asks for
-        pub forwards : Forwarded t r (moved_of onward t.b t.a n)
-        forwards =
+        pub carried_forwards : ForwardedFrom t r (moved_of onward t.b t.a n)
+        carried_forwards =
             record {
               stands = subst (λ (x : Graph). Carries numbers most_arms x (forward (tabled t))) (sym kept_is) is_standing;
               back = subst (λ (x : Graph). Back t → Back x) (sym kept_is) (λ b. b);
@@ -154,7 +154,27 @@ module _ (t : Graph) (s : Sound t) where
               apart = subst Apart (sym kept_is) is_apart;
             }
 
+-- tables that stand for the graph forwarded carry it, and those that carry it stand for it where `place` was the way back
+module _ {t u : Graph} {moved : ℕ} where
+  pub forwarded_from : Forwarded t u moved → ForwardedFrom t u moved
+  forwarded_from f = record { stands = carries_of f.stands; back = λ b. f.stands.back; kept = f.kept; moved_is = f.moved_is; apart = f.apart }
+
+  pub forwarded_to : Back t → ForwardedFrom t u moved → Forwarded t u moved
+  forwarded_to b f = record { stands = stands_of f.stands (f.back b); kept = f.kept; moved_is = f.moved_is; apart = f.apart }
+
+module _ (t : Graph) (s : Sound t) (onward : List (Option ℕ)) (g : Goals t onward t.blocks) (apart : Apart t) (reached : List Bool)
+    (in_to : (x : ℕ) → get_or reached x false ≡ entered (tabled (turned onward t t.blocks)) x) where
+  pub forwards : Forwarded t (cleared onward reached (turned onward t t.blocks) t.blocks) (moved_of onward t.b t.a t.blocks)
+  forwards = forwarded_to s.stands.back (carried_forwards t (sound_carried s) onward g apart reached in_to)
+
 -- what is left can be lent again
+pub carried_again : (t v : Graph) (moved : ℕ) → Carried t → ForwardedFrom t v moved → Carried v
+carried_again t v moved s f =
+    record {
+      stands = rw f.stands.graph_is f.stands;
+      whole = subst Whole (sym f.stands.graph_is) (forward_whole (tabled t) s.whole);
+    }
+
 pub forwarded_sound : (t v : Graph) (moved : ℕ) → Sound t → Forwarded t v moved → Sound v
 forwarded_sound t v moved s f =
     record {

@@ -10,7 +10,7 @@ use Rattle.rules.proofs.Forwarded.{through_target, goal_listed}
 use Rattle.records.specs.declared.Blocks.{Blocks}
 use Rattle.records.specs.declared.Arms.{Arms}
 use Rattle.records.specs.declared.Graph.{Graph}
-use Rattle.records.specs.Tables.{arm_at, arms_from, leaves, block_at, tabled, Sound}
+use Rattle.records.specs.Tables.{arm_at, arms_from, leaves, block_at, tabled, Carried}
 use Rattle.records.proofs.TableLaws.{up_to_length}
 use Rattle.records.proofs.StandLaws.{in_listed, find_in}
 use Rattle.forwarding.specs.Steps.{plain, passing}
@@ -53,7 +53,7 @@ way_is b a n =
     (only_target (arms_from a f c)) (get_or a.to f 0) (only_is a f c))
 
 -- ---- chains
-module _ (t : Graph) (s : Sound t) where
+module _ (t : Graph) (s : Carried t) where
   pub small : (n : ℕ) → In n (numbers_of (tabled t)) → n < numbers
   unfolding tabled
   small n i = let r = in_listed t.b t.a n t.blocks i in subst (λ (k : ℕ). k < numbers) r.2 (s.stands.below r.0 r.1)

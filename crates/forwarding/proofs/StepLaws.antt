@@ -16,7 +16,7 @@ use Rattle.rules.specs.Forward.{goal}
 use Rattle.records.specs.declared.Blocks.{Blocks}
 use Rattle.records.specs.declared.Arms.{Arms}
 use Rattle.records.specs.declared.Graph.{Graph}
-use Rattle.records.specs.Tables.{tabled, ArmsWithin, Sound}
+use Rattle.records.specs.Tables.{tabled, ArmsWithin, Carried}
 use Rattle.records.proofs.StandLaws.{listed_in}
 use Rattle.forwarding.specs.Steps.{ours_of, Goals, goes_to, hop_of, differ, differing, hops_of, turn_of, turns_of, moved_of, put}
 use Rattle.forwarding.proofs.GoalLaws.{goal_small}
@@ -42,7 +42,7 @@ module _ (t : Graph) where
   pub goals_none : Goals t (replicate blocks None) 0
   goals_none = record { known = λ j h. absurd (omega (arith, h)); small = λ k m e. absurd (let z = sym (same_get None blocks k) ∙ e in cc) }
 
-  pub goals_more : (s : Sound t) (onward : List (Option ℕ)) (i : ℕ) (o : Option ℕ) → length onward ≡ blocks → i < t.blocks → Goals t onward i
+  pub goals_more : (s : Carried t) (onward : List (Option ℕ)) (i : ℕ) (o : Option ℕ) → length onward ≡ blocks → i < t.blocks → Goals t onward i
       → o ≡ goal (tabled t) (get_or t.b.listed i 0) → Goals t (set onward (get_or t.b.listed i 0) o) (i + 1)
   goals_more s onward i o sized h g e =
       let n = get_or t.b.listed i 0 in

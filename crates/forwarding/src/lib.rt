@@ -6,8 +6,8 @@ ghost use Rattle.limits.specs.Limits.{blocks, arms};
 ghost use Rattle.rules.specs.Graph.{numbers_of};
 ghost use Rattle.rules.specs.Forward.{through, leaves_at, goal, entered};
 ghost use Rattle.rules.proofs.Membership.{In};
-ghost use Rattle.records.specs.Tables.{block_at, tabled, Apart, ArmsWithin, Sound};
-ghost use Rattle.forwarding.specs.Forwards.{Forwarded};
+ghost use Rattle.records.specs.Tables.{block_at, tabled, Apart, ArmsWithin, Carried};
+ghost use Rattle.forwarding.specs.Forwards.{ForwardedFrom};
 ghost use Rattle.forwarding.specs.Steps.{passing, plain, ours_of, Goals, hop_of, differ, differing, turn_of, moved_of, turned, Reached, Leads, useless_of, dead_of, cleared};
 
 use limits::BLOCKS;
@@ -70,7 +70,7 @@ fn through(b: &Blocks, a: &Arms, n: u16) -> Option<u16>
 // The first block from `start` on that is no way through, if there is one along that many arms.
 #[tactic(auto, using(crate::proofs::GoalLaws::chain_steps), unfolding(rules::specs::Forward::leaves_at))]
 fn leaves_at(g: &Graph, start: u16, steps: usize) -> Option<u16>
-    requires { Sound g.now × In start (numbers_of (tabled g.now)) }
+    requires { Carried g.now × In start (numbers_of (tabled g.now)) }
     ensures { result ≡ leaves_at (tabled g.now) steps start }
 {
     let mut at = start;
@@ -87,7 +87,7 @@ fn leaves_at(g: &Graph, start: u16, steps: usize) -> Option<u16>
 // Where arms to block n may go instead: a chain leaves within as many steps as there are blocks.
 #[tactic(auto, using(crate::proofs::GoalLaws::chain_steps))]
 fn goal(g: &Graph, n: u16) -> Option<u16>
-    requires { Sound g.now × In n (numbers_of (tabled g.now)) }
+    requires { Carried g.now × In n (numbers_of (tabled g.now)) }
     ensures { result ≡ goal (tabled g.now) n }
 {
     let next = through(&g.b, &g.a, n)?;
@@ -96,7 +96,7 @@ fn goal(g: &Graph, n: u16) -> Option<u16>
 
 // The goals of all listed blocks.
 fn goals(g: &Graph) -> Onward
-    requires { Sound g.now }
+    requires { Carried g.now }
     ensures { Goals g.now result g.now.blocks }
 {
     let mut onward = [None; BLOCKS];
@@ -236,9 +236,9 @@ fn clear(onward: &Onward, reached: &[bool; BLOCKS], g: &mut Graph)
 
 // Goals are fixed first, then the arms move; last, what no arm goes to any more is cleared. How many arms moved.
 pub fn forward(g: &mut Graph) -> usize
-    requires sound { Sound g.old }
+    requires sound { Carried g.old }
     requires apart { Apart g.old }
-    ensures { Forwarded g.old g.new result }
+    ensures { ForwardedFrom g.old g.new result }
 {
     let onward = goals(g);
     let moved = move_arms(&onward, g);

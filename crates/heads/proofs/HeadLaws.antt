@@ -1,4 +1,4 @@
--- Tables that carry a graph: what the code marks by them is what the rules call a head. Assumes nothing.
+-- Tables that stand for a graph: what the code marks by them is what the rules call a head. Assumes nothing.
 use Prim.Native.Nat.{ℕ, zero, suc, ◌+◌, ◌≤◌, ◌<◌, ◌/◌, max}
 use native.Mathlib.Nat.{add-zero, add-suc, suc-add}
 use native.Mathlib.Numerals.{add-one}
@@ -23,7 +23,7 @@ use Rattle.rules.proofs.HeadsExact.{Head, heads_exact}
 use Rattle.records.specs.declared.Blocks.{Blocks}
 use Rattle.records.specs.declared.Arms.{Arms}
 use Rattle.records.specs.declared.Graph.{Graph}
-use Rattle.records.specs.Tables.{arm_at, arms_from, leaves, block_at, up_to, tabled, Back}
+use Rattle.records.specs.Tables.{arm_at, arms_from, leaves, block_at, up_to, tabled}
 use Rattle.records.proofs.TableLaws.{up_to_length}
 use Rattle.records.proofs.StandLaws.{listed_in}
 use Rattle.cycles.specs.Pieces.{PiecesOf}
@@ -193,7 +193,7 @@ module _ (t : Graph) (s : Fitting t) (piece : List ℕ) (ps : PiecesOf (tabled t
 
   -- no block stands at two places
   place_one : (i j : ℕ) → i < t.blocks → j < t.blocks → get_or t.b.listed i 0 ≡ get_or t.b.listed j 0 → i ≡ j
-  place_one = s.stands.once
+  place_one i j h k e = omega (arith, sym (s.stands.back i h) ∙ ap (λ (m : ℕ). get_or t.b.place m 0) e ∙ s.stands.back j k)
 
   module _ (i : ℕ) (h : i < t.blocks) where
     abbrev m : ℕ
@@ -220,9 +220,9 @@ module _ (t : Graph) (s : Fitting t) (piece : List ℕ) (ps : PiecesOf (tabled t
         let l : r.0 < t.blocks = omega (arith, r.2, up_to_length t.b t.a t.blocks) in
         (r.0, r.1, l, r.3 ∙ block_at_lem t.b t.a t.blocks r.0 l)
 
-    to_head : Back t → 1 ≤ i → head_floor (tabled t) ≤ get_or t.b.weight m 0 → From t piece t.blocks m → Head (tabled t) i (block_at t.b t.a m)
+    to_head : 1 ≤ i → head_floor (tabled t) ≤ get_or t.b.weight m 0 → From t piece t.blocks m → Head (tabled t) i (block_at t.b t.a m)
     unfolding behind block_at
-    to_head w l f r =
+    to_head l f r =
         let c = get_or t.b.listed r.place 0 in
         let q = and_r (leb (get_or t.b.place m 0) (suc r.place)) (eqb (get_or piece m 0) (get_or piece c 0)) r.back in
         let p = leb→le (get_or t.b.place m 0) (suc r.place) (and_l (leb (get_or t.b.place m 0) (suc r.place)) (eqb (get_or piece m 0) (get_or piece c 0)) r.back) in
@@ -230,14 +230,14 @@ module _ (t : Graph) (s : Fitting t) (piece : List ℕ) (ps : PiecesOf (tabled t
           later = l;
           hot = f;
           tail = block_at t.b t.a c;
-          place = block_in r.place (omega (arith, p, w i h)) r.within;
+          place = block_in r.place (omega (arith, p, s.stands.back i h)) r.within;
           arm = target_in t.b t.a c m r.arm;
           loop = ((classes (tabled t) s.whole m c (number_in i h) (number_in r.place r.within)).0 ((ps.exact m c (number_in i h) (number_in r.place r.within)).0 (eqb→eq (get_or piece m 0) (get_or piece c 0) q))).0;
         }
 
-    from_head_at : Back t → Head (tabled t) i (block_at t.b t.a m) → (1 ≤ i) × (head_floor (tabled t) ≤ get_or t.b.weight m 0) × From t piece t.blocks m
+    from_head_at : Head (tabled t) i (block_at t.b t.a m) → (1 ≤ i) × (head_floor (tabled t) ≤ get_or t.b.weight m 0) × From t piece t.blocks m
     unfolding behind block_at
-    from_head_at w d =
+    from_head_at d =
         let r = in_block d.tail d.place in
         let j = r.0 in
         let c = get_or t.b.listed j 0 in
@@ -252,7 +252,7 @@ module _ (t : Graph) (s : Fitting t) (piece : List ℕ) (ps : PiecesOf (tabled t
             place = j;
             within = r.2;
             arm = in_target t.b t.a c m arm;
-            back = and_i (leb (get_or t.b.place m 0) (suc j)) (eqb (get_or piece m 0) (get_or piece c 0)) (le→leb (get_or t.b.place m 0) (suc j) (omega (arith, r.1, w i h))) (subst (λ (z : ℕ). T (eqb (get_or piece m 0) z)) e (eqb_refl (get_or piece m 0)));
+            back = and_i (leb (get_or t.b.place m 0) (suc j)) (eqb (get_or piece m 0) (get_or piece c 0)) (le→leb (get_or t.b.place m 0) (suc j) (omega (arith, r.1, s.stands.back i h))) (subst (λ (z : ℕ). T (eqb (get_or piece m 0) z)) e (eqb_refl (get_or piece m 0)));
           },
         )
 
@@ -262,9 +262,9 @@ module _ (t : Graph) (s : Fitting t) (piece : List ℕ) (ps : PiecesOf (tabled t
     unfolding head_floor
     floor_is = sym is_floor
 
-    pub head_exact : Back t → (i : ℕ) → i < t.blocks → head_to t.b.listed (heads t.b.weight back floor) t.blocks (get_or t.b.listed i 0) ≡ head_at (tabled t) i
+    pub head_exact : (i : ℕ) → i < t.blocks → head_to t.b.listed (heads t.b.weight back floor) t.blocks (get_or t.b.listed i 0) ≡ head_at (tabled t) i
     unfolding heads
-    head_exact w i h = same_test (head_to t.b.listed (heads t.b.weight back floor) t.blocks (m i h)) (head_at (tabled t) i) to from
+    head_exact i h = same_test (head_to t.b.listed (heads t.b.weight back floor) t.blocks (m i h)) (head_at (tabled t) i) to from
       where
         to : T (head_to t.b.listed (heads t.b.weight back floor) t.blocks (m i h)) → T (head_at (tabled t) i)
         to u =
@@ -272,10 +272,10 @@ module _ (t : Graph) (s : Fitting t) (piece : List ℕ) (ps : PiecesOf (tabled t
             let e = place_one i r.0 h r.1 r.3 in
             let f = leb→le floor (get_or t.b.weight (m i h) 0) (and_l (leb floor (get_or t.b.weight (m i h) 0)) (member back (m i h)) r.4) in
             let k = and_r (leb floor (get_or t.b.weight (m i h) 0)) (member back (m i h)) r.4 in
-            (heads_exact (tabled t) s.whole i (long i h)).1 (subst (Head (tabled t) i) (sym (at_is i h)) (to_head i h w (omega (arith, r.2, e)) (omega (arith, f, floor_is)) (back_from t piece t.blocks (m i h) (subst T (marked (m i h)) k))))
+            (heads_exact (tabled t) s.whole i (long i h)).1 (subst (Head (tabled t) i) (sym (at_is i h)) (to_head i h (omega (arith, r.2, e)) (omega (arith, f, floor_is)) (back_from t piece t.blocks (m i h) (subst T (marked (m i h)) k))))
 
         from : T (head_at (tabled t) i) → T (head_to t.b.listed (heads t.b.weight back floor) t.blocks (m i h))
         from u =
-            let r = from_head_at i h w (subst (Head (tabled t) i) (at_is i h) ((heads_exact (tabled t) s.whole i (long i h)).0 u)) in
+            let r = from_head_at i h (subst (Head (tabled t) i) (at_is i h) ((heads_exact (tabled t) s.whole i (long i h)).0 u)) in
             from_head t.b.listed (heads t.b.weight back floor) t.blocks i (m i h) h r.0 refl
             (and_i (leb floor (get_or t.b.weight (m i h) 0)) (member back (m i h)) (le→leb floor (get_or t.b.weight (m i h) 0) (omega (arith, r.1, floor_is))) (subst T (sym (marked (m i h))) (from_back t piece t.blocks (m i h) r.2)))

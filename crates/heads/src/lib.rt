@@ -6,10 +6,10 @@
 
 ghost use Rattle.std.specs.Prelude.{◌≡◌, ◌||◌, ℕ, ◌<◌, get_or};
 ghost use Rattle.rules.specs.Heads.{hottest};
-ghost use Rattle.records.specs.Tables.{tabled, Back};
+ghost use Rattle.records.specs.Tables.{tabled};
 ghost use Rattle.marks.specs.Sets.{member};
-ghost use Rattle.walks.specs.Walking.{Fitting};
-ghost use Rattle.cycles.specs.Pieces.{Linkable};
+ghost use Rattle.walks.specs.Walking.{Walkable};
+ghost use Rattle.cycles.specs.Pieces.{Linkable, Gatherable};
 ghost use Rattle.heads.specs.Heading.{behind, arms_back, back_to, heads, head_to, HeadsOf};
 
 use limits::BLOCKS;
@@ -21,7 +21,7 @@ const ALIGN_THRESHOLD: u64 = 100;
 
 // The greatest weight of a block.
 fn hottest(g: &Graph) -> u64
-    requires { Fitting g.now }
+    requires { Walkable g.now }
     ensures { result ≡ hottest (tabled g.now) }
 {
     let mut hot: u64 = 0;
@@ -41,7 +41,7 @@ fn goes_back(b: &Blocks, piece: &[u16; BLOCKS], c: u16, p: usize, t: u16) -> boo
 
 // Where the arms of the block at place i go back to is marked.
 fn mark_arms(g: &Graph, piece: &[u16; BLOCKS], i: usize, back: &mut Set)
-    requires { Linkable g.now × (i < g.now.blocks) }
+    requires { Gatherable g.now × (i < g.now.blocks) }
     ensures { (m : ℕ) → member back.new m ≡ member back.old m || arms_back g.now piece.now i (get_or g.now.a.count (get_or g.now.b.listed i 0) 0) m }
 {
     let c = g.b.listed[i];
@@ -56,7 +56,7 @@ fn mark_arms(g: &Graph, piece: &[u16; BLOCKS], i: usize, back: &mut Set)
 
 // The blocks that an arm enters from behind.
 fn mark_back(g: &Graph, piece: &[u16; BLOCKS]) -> Set
-    requires { Linkable g.now }
+    requires { Gatherable g.now }
     ensures { (m : ℕ) → member result m ≡ back_to g.now piece.now g.now.blocks m }
 {
     let mut back = marks::none();
@@ -75,7 +75,7 @@ fn is_head(b: &Blocks, back: &Set, floor: u64, m: u16) -> bool
 
 // The listed blocks past the first that are heads.
 fn mark_heads(g: &Graph, back: &Set, floor: u64) -> Set
-    requires { Fitting g.now }
+    requires { Walkable g.now }
     ensures { (m : ℕ) → member result m ≡ head_to g.now.b.listed (heads g.now.b.weight back.now floor) g.now.blocks m }
 {
     let mut set = marks::none();
@@ -90,7 +90,7 @@ fn mark_heads(g: &Graph, back: &Set, floor: u64) -> Set
 
 // The blocks that are heads in the listed order.
 pub fn heads(g: &Graph) -> Set
-    requires { Linkable g.now × Back g.now }
+    requires { Linkable g.now }
     ensures { HeadsOf g.now result }
 {
     let piece = cycles::cycles(g);

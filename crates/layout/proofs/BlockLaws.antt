@@ -27,15 +27,17 @@ use Rattle.rules.proofs.Bounds.{readied_total}
 use Rattle.records.specs.declared.Blocks.{Blocks}
 use Rattle.records.specs.declared.Graph.{Graph}
 use Rattle.records.specs.declared.Order.{Order}
-use Rattle.records.specs.Tables.{tabled, Carries, Stands, Sound, in_order}
-use Rattle.records.proofs.StandLaws.{once_apart, in_listed, in_tables, find_in, numbers_are}
+use Rattle.records.specs.Tables.{tabled, Back, Carries, Stands, Sound, Carried, in_order}
+use Rattle.records.proofs.StandLaws.{once_apart, in_listed, in_tables, find_in, numbers_are, carries_of, sound_carried, carried_sound}
 use Rattle.cold.specs.declared.Parts.{Parts}
 use Rattle.cold.specs.Sides.{Divides, Parted}
-use Rattle.cold.specs.Spreading.{SpreadTo}
+use Rattle.cold.specs.Spreading.{SpreadTo, SpreadFrom}
+use Rattle.cold.proofs.SpreadLaws.{spread_from}
 use Rattle.exits.specs.declared.Laid.{Laid}
-use Rattle.exits.specs.Lays.{lay_at, arms_to, split_number, Fits, Over, Layable, LaidOf, Lays}
+use Rattle.exits.specs.Lays.{lay_at, arms_to, split_number, Fits, Suits, Over, Layable, LaidOf, Lays}
+use Rattle.exits.proofs.Finished.{suits_fits}
 use Rattle.exits.proofs.Turns.{order_length, order_get}
-use Rattle.layout.specs.Blocks.{split_at, Ready, PlacedOf}
+use Rattle.layout.specs.Blocks.{split_at, Ready, Arrangeable, PlacedOf}
 use Rattle.layout.proofs.OrderLaws.{ordered_once, get_in, once_places, partition_count, order_total}
 
 -- tables stand for their own graph
@@ -65,7 +67,7 @@ carries_own c =
     }
 
 -- a graph has its own tables, so its order can be laid by them, and is
-module _ {g : Graph} {o : Order} {split : Option ℕ} (y : Fits g o split) where
+module _ {g : Graph} {o : Order} {split : Option ℕ} (y : Suits g o split) where
   over_own : Over g g
   over_own = record { marks_is = refl; ends_is = refl; weight_is = refl; arms_are = refl }
 
@@ -194,8 +196,8 @@ module _ (t s : Graph) (stands : Carries most.numbers most.most_arms s (spread (
       unfolding tabled
       all_arms = order_total s.b s.a s.blocks (in_order p) parts_count
 
-      pub layable : Fits s p cut
-      layable = record {
+      pub carried_layable : Suits s p cut
+      carried_layable = record {
         stands = carries_own stands;
         few = few;
         orderly = record {
@@ -316,9 +318,9 @@ module _ (t s : Graph) (stands : Carries most.numbers most.most_arms s (spread (
             }
 
 -- ---- the passes, one after the other; s is what spreading leaves
-module _ {t s : Graph} (r : Ready t) (sp : SpreadTo t s) where
-  pub spread_sound : Sound s
-  spread_sound = record { stands = carries_own sp.stands; whole = whole t s sp.stands r.sound.whole r.total }
+module _ {t s : Graph} (r : Arrangeable t) (sp : SpreadFrom t s) where
+  pub spread_carried : Carried s
+  spread_carried = record { stands = carries_own sp.stands; whole = whole t s sp.stands r.sound.whole r.total }
 
   module _ (reorder : Bool) (o : Order) (os : (in_order o ≡ ordered reorder (tabled s)) × (o.len ≡ s.blocks)) where
     pub can_divide : Divides s o
@@ -330,8 +332,8 @@ module _ {t s : Graph} (r : Ready t) (sp : SpreadTo t s) where
         }
 
     module _ (p : Parts) (ps : Parted s o p) (sized : length p.order.block ≡ most.blocks) where
-      pub can_lay : Fits s p.order p.split
-      can_lay = layable t s sp.stands r.sound.whole r.total reorder o os.0 os.1 p.order p.split ps.parts ps.long ps.split sized
+      pub carried_can_lay : Suits s p.order p.split
+      carried_can_lay = carried_layable t s sp.stands r.sound.whole r.total reorder o os.0 os.1 p.order p.split ps.parts ps.long ps.split sized
 
       module _ (l : Laid) (ls : LaidOf (tabled s) (in_order p.order) p.split l) where
         pub can_split : (i : ℕ) → p.split ≡ Some i → (i < most.blocks) × (0 < get_or l.graph.b.place (get_or p.order.block i 0) 0)
@@ -340,3 +342,25 @@ module _ {t s : Graph} (r : Ready t) (sp : SpreadTo t s) where
         pub all_placed : (x : Option ℕ) → x ≡ split_at l.graph.b.place p.order.block p.split → PlacedOf reorder (tabled t) (record l { split = x })
         all_placed x e =
             rw e (placed_of t s sp.stands r.sound.whole r.total reorder o os.0 os.1 p.order p.split ps.parts ps.long ps.split sized l ls)
+
+-- ---- the same of tables that stand for their graph
+module _ {t : Graph} where
+  pub ready_arrangeable : Ready t → Arrangeable t
+  ready_arrangeable r = record { sound = sound_carried r.sound; total = r.total }
+
+  pub arrangeable_ready : Arrangeable t → Back t → Ready t
+  arrangeable_ready r b = record { sound = carried_sound r.sound b; total = r.total }
+
+module _ (t s : Graph) (stands : Stands most.numbers most.most_arms s (spread (tabled t))) (w : Whole (tabled t)) (total : arm_total (tabled t) ≤ most.most_arms) (reorder : Bool)
+    (o : Order) (oe : in_order o ≡ ordered reorder (tabled s)) (ol : o.len ≡ s.blocks) (p : Order) (cut : Option ℕ) (pe : in_order p ≡ partition (tabled s) (in_order o)) (pl : p.len ≡ o.len)
+    (ce : cut ≡ pick (splits (tabled s)) (Some (length (warm_part (tabled s) (in_order o)))) None) (sized : length p.block ≡ most.blocks) where
+  pub layable : Fits s p cut
+  layable = suits_fits stands.back (carried_layable t s (carries_of stands) w total reorder o oe ol p cut pe pl ce sized)
+
+module _ {t s : Graph} (r : Ready t) (sp : SpreadTo t s) where
+  pub spread_sound : Sound s
+  spread_sound = carried_sound (spread_carried (ready_arrangeable r) (spread_from sp)) sp.stands.back
+
+  module _ (reorder : Bool) (o : Order) (os : (in_order o ≡ ordered reorder (tabled s)) × (o.len ≡ s.blocks)) (p : Parts) (ps : Parted s o p) (sized : length p.order.block ≡ most.blocks) where
+    pub can_lay : Fits s p.order p.split
+    can_lay = suits_fits sp.stands.back (carried_can_lay (ready_arrangeable r) (spread_from sp) reorder o os p ps sized)

@@ -30,12 +30,12 @@ use Rattle.rules.proofs.BridgeAfter.{laid_whole}
 use Rattle.rules.proofs.Bounds.{MarksLow, forward_total, accepted_marks, readied_marks, lay_marks}
 use Rattle.rules.proofs.Demands.{asked}
 use Rattle.records.specs.declared.Graph.{Graph}
-use Rattle.records.specs.Tables.{tabled, Stands, Holds, Sound, Apart}
+use Rattle.records.specs.Tables.{tabled, Stands, Holds, Back, Sound, Apart}
 use Rattle.records.proofs.TableLaws.{up_to_length}
-use Rattle.records.proofs.StandLaws.{listed_in, carries_of}
+use Rattle.records.proofs.StandLaws.{listed_in, carries_of, stands_of}
 use Rattle.reader.specs.Reads.{Reads}
 use Rattle.layout.specs.Blocks.{places_by, split_by, Ready}
-use Rattle.layout.specs.Outcomes.{ForwardsIf, laid_out, outcome_by, Fit, Makes}
+use Rattle.layout.specs.Outcomes.{ForwardsIf, ForwardedIf, laid_out, outcome_by, Fit, Makes}
 use Rattle.layout.proofs.BlockLaws.{carries_own}
 use Rattle.layout.proofs.BackLaws.{refused_by, accepted, held}
 
@@ -58,6 +58,14 @@ asked_laid : (b reorder : Bool) (g : graph.Graph) (d : List ℕ) → length (ask
 unfolding outcome_by layout_of laid_out laid layout split_of readied
 asked_laid true reorder g d e = rw e
 asked_laid false reorder g d e = refl
+
+-- tables that stand for what is asked carry it, and those that carry it stand for it where `place` was the way back
+module _ {on : Bool} {t u : Graph} {moved : ℕ} where
+  pub forwards_forwarded : ForwardsIf on t u moved → ForwardedIf on t u moved
+  forwards_forwarded f = record { stands = carries_of f.stands; back = λ b. f.stands.back; kept = f.kept; moved_is = f.moved_is }
+
+  pub forwarded_forwards : Back t → ForwardedIf on t u moved → ForwardsIf on t u moved
+  forwarded_forwards b f = record { stands = stands_of f.stands (f.back b); kept = f.kept; moved_is = f.moved_is }
 
 module _ {A : Type 0} (s d : List ℕ) (on reorder : Bool) (t : Graph) (r : Result A Refusal) (h : Reads s t r) where
   pub layout_refused : (x : Refusal) → r ≡ Err x
@@ -109,9 +117,9 @@ module _ {A : Type 0} (s d : List ℕ) (on reorder : Bool) (t : Graph) (r : Resu
 
     -- the tables as read can be forwarded
     pub can_forward : Sound t × Apart t
-    can_forward = (record { stands = carries_of stands; whole = sound_graph.whole }, k.apart)
+    can_forward = (record { stands = stands; whole = sound_graph.whole }, k.apart)
 
-    module _ (u : Graph) (moved : ℕ) (f : ForwardsIf on t u moved) where
+    module _ (u : Graph) (moved : ℕ) (f : ForwardedIf on t u moved) where
       asked_whole : (x : Bool) → Whole (asked x (tabled t))
       asked_whole true = forward_whole (tabled t) sound_graph.whole
       asked_whole false = sound_graph.whole
@@ -124,7 +132,7 @@ module _ {A : Type 0} (s d : List ℕ) (on reorder : Bool) (t : Graph) (r : Resu
       pub ready : Ready u
       ready =
           record {
-            sound = record { stands = carries_own f.stands; whole = subst Whole (sym f.stands.graph_is) (asked_whole on) };
+            sound = record { stands = stands_of (carries_own f.stands) (f.back k.back); whole = subst Whole (sym f.stands.graph_is) (asked_whole on) };
             total = omega (arith, ap arm_total f.stands.graph_is, asked_total on);
           }
 

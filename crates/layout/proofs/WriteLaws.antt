@@ -21,7 +21,6 @@ use Rattle.records.specs.declared.Blocks.{Blocks}
 use Rattle.records.specs.declared.Arms.{Arms}
 use Rattle.records.specs.Tables.{block_at, tabled, up_to, Stands}
 use Rattle.records.proofs.TableLaws.{up_to_length}
-use Rattle.records.proofs.StandLaws.{carries_of}
 use Rattle.cycles.specs.Pieces.{Linkable}
 use Rattle.exits.specs.declared.Laid.{Laid}
 use Rattle.exits.specs.Lays.{places_of, split_number}
@@ -92,7 +91,7 @@ module _ {reorder : Bool} {g : graph.Graph} {l : Laid} (h : PlacedOf reorder g l
 
     -- pieces can be looked for, and heads too, `place` being the way back
     pub can_head : Linkable l.graph
-    can_head = record { fitting = record { stands = carries_of own; whole = whole }; few_arms = omega (arith, total, h.few_arms) }
+    can_head = record { fitting = record { stands = own; whole = whole }; few_arms = omega (arith, total, h.few_arms) }
 
     pub can_write : (room : ℕ) → most.size * (l.graph.blocks + l.graph.arms) ≤ room → file.Writable l room
     can_write room k = record { few = own.few; within = own.fits; small = small; fits = omega (arith, k, total) }

@@ -7,7 +7,7 @@ use Rattle.rules.specs.Spread.{spread}
 use Rattle.rules.specs.Laid.{ordered}
 use Rattle.rules.specs.Exits.{Place, bridges, lay, split_place, laid_graph}
 use Rattle.records.specs.declared.Graph.{Graph}
-use Rattle.records.specs.Tables.{tabled, Stands, Sound}
+use Rattle.records.specs.Tables.{tabled, Stands, Sound, Carried}
 use Rattle.exits.specs.declared.Laid.{Laid}
 use Rattle.exits.specs.Lays.{places_of, split_number}
 
@@ -27,6 +27,11 @@ split_by reorder g = split_place (spread g) (ordered reorder (spread g))
 -- t stands for a graph that can be laid
 pub record Ready (t : Graph) : Type 0 where
   pub sound : Sound t
+  pub total : arm_total (tabled t) ≤ most.most_arms
+
+-- t carries such a graph
+pub record Arrangeable (t : Graph) : Type 0 where
+  pub sound : Carried t
   pub total : arm_total (tabled t) ≤ most.most_arms
 
 -- l has the places of g

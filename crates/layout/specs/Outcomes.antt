@@ -11,15 +11,21 @@ use Rattle.rules.proofs.Membership.{In}
 use Rattle.rules.proofs.Wholeness.{Whole}
 use Rattle.rules.proofs.Demands.{asked}
 use Rattle.records.specs.declared.Graph.{Graph}
-use Rattle.records.specs.Tables.{tabled, Back, Carries}
+use Rattle.records.specs.Tables.{tabled, Back, Carries, Stands}
 use Rattle.forwarding.specs.Forwards.{changed}
 use Rattle.exits.specs.declared.Laid.{Laid}
 use Rattle.layout.specs.Blocks.{places_by, split_by, PlacedOf}
 
 -- ---- forwarding, if it is asked for
 
--- t' carries what is asked of t's graph and is t but for what forwarding changes, the way back as it was, and so many arms moved
+-- t' stands for what is asked of t's graph and is t but for what forwarding changes, and so many arms moved
 pub record ForwardsIf (on : Bool) (t t' : Graph) (moved : ℕ) : Type 0 where
+  pub stands : Stands numbers most_arms t' (asked on (tabled t))
+  pub kept : t' ≡ changed t t'.b.marks t'.b.weight t'.a.count t'.a.to
+  pub moved_is : moved ≡ cond on (moves (tabled t)) 0
+
+-- t' carries what is asked of t's graph and is t but for what forwarding changes, the way back as it was, and so many arms moved
+pub record ForwardedIf (on : Bool) (t t' : Graph) (moved : ℕ) : Type 0 where
   pub stands : Carries numbers most_arms t' (asked on (tabled t))
   pub back : Back t → Back t'
   pub kept : t' ≡ changed t t'.b.marks t'.b.weight t'.a.count t'.a.to

@@ -2,10 +2,10 @@
 ghost use Rattle.std.specs.Prelude.{◌≡◌, ◌<◌, ℕ, get_or, Some};
 ghost use Rattle.limits.specs.Limits.{blocks};
 ghost use Rattle.rules.specs.Laid.{ordered};
-ghost use Rattle.cold.specs.Spreading.{SpreadTo};
-ghost use Rattle.records.specs.Tables.{Sound, tabled, in_order};
+ghost use Rattle.cold.specs.Spreading.{SpreadFrom};
+ghost use Rattle.records.specs.Tables.{Carried, tabled, in_order};
 ghost use Rattle.exits.specs.Lays.{Unlaid};
-ghost use Rattle.layout.specs.Blocks.{split_at, Ready, PlacedOf};
+ghost use Rattle.layout.specs.Blocks.{split_at, Arrangeable, PlacedOf};
 
 use exits::Laid;
 use limits::BLOCKS;
@@ -26,7 +26,7 @@ fn split_place(b: &Blocks, order: &[u16; BLOCKS], split: Option<usize>) -> Optio
 // The order of the listed blocks, before it is split: their traces, or the plain order.
 #[tactic(auto, unfolding(rules::specs::Laid::ordered))]
 fn ordered(reorder: bool, g: &Graph) -> Order
-    requires { Sound g.now }
+    requires { Carried g.now }
     ensures { (in_order result ≡ ordered reorder (tabled g.now)) × (result.len ≡ g.now.blocks) }
 {
     if reorder {
@@ -38,9 +38,9 @@ fn ordered(reorder: bool, g: &Graph) -> Order
 
 // Spread, put in order, split, and left by exits with bridges.
 pub fn blocks(reorder: bool, g: &mut Graph, laid: &mut Laid)
-    requires ready { Ready g.old }
+    requires ready { Arrangeable g.old }
     requires unlaid { Unlaid laid.old }
-    ensures spread { SpreadTo g.old g.new }
+    ensures spread { SpreadFrom g.old g.new }
     ensures placed { PlacedOf reorder (tabled g.old) laid.new }
 {
     cold::spread(g);

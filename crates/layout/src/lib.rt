@@ -7,9 +7,9 @@ pub mod blocks;
 ghost use Rattle.std.specs.Prelude.{◌≡◌};
 ghost use Rattle.rules.specs.Faults.{number_of};
 ghost use Rattle.rules.specs.Outcome.{refusal, written_back, write_back, layout_blocks};
-ghost use Rattle.records.specs.Tables.{Sound, Apart};
+ghost use Rattle.records.specs.Tables.{Carried, Apart};
 ghost use Rattle.exits.specs.Lays.{split_number};
-ghost use Rattle.layout.specs.Outcomes.{ForwardsIf, laid_out, Writable, Writes};
+ghost use Rattle.layout.specs.Outcomes.{ForwardedIf, laid_out, Writable, Writes};
 
 use exits::Laid;
 use limits::{NO_SPLIT, RECORD};
@@ -78,8 +78,8 @@ fn laid_out(
 
 // The arms forwarded, if that is asked for, and how many moved.
 pub fn forwarded(on: bool, g: &mut Graph) -> usize
-    requires { Sound g.old × Apart g.old }
-    ensures { ForwardsIf on g.old g.new result }
+    requires { Carried g.old × Apart g.old }
+    ensures { ForwardedIf on g.old g.new result }
 {
     if on { forwarding::forward(g) } else { 0 }
 }

@@ -19,7 +19,7 @@ use Rattle.heads.specs.Heading.{HeadsOf}
 use Rattle.reader.specs.Reads.{Reads}
 use Rattle.exits.specs.declared.Laid.{Laid}
 use Rattle.layout.specs.Blocks.{places_by, PlacedOf}
-use Rattle.layout.specs.Outcomes.{ForwardsIf}
+use Rattle.layout.specs.Outcomes.{ForwardedIf}
 use Rattle.layout.proofs.WriteLaws.{own, laid_few}
 use Rattle.layout.proofs.BackLaws.{refused_by, accepted}
 use Rattle.layout.proofs.FileLaws.{laid_as, split_as}
@@ -44,7 +44,7 @@ module _ {A : Type 0} (s : List ℕ) (t : Graph) (r : Result A Refusal) (h : Rea
       let q = refused_by s t r h x e in
       subst (λ (l : List ℕ). Printed l before after long) (ap refusal_line q.0 ∙ simp (ne_eqb _ _ q.1)) p
 
-  module _ (a : A) (e : r ≡ Ok a) (u : Graph) (moved : ℕ) (f : ForwardsIf true t u moved) (l : Laid) (p : PlacedOf true (tabled u) l) where
+  module _ (a : A) (e : r ≡ Ok a) (u : Graph) (moved : ℕ) (f : ForwardedIf true t u moved) (l : Laid) (p : PlacedOf true (tabled u) l) where
     listed : listing (places_by true (tabled u)) l.split ≡ listing_of (graph_of (records s))
     unfolding listing listing_of
     listed =

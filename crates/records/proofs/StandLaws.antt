@@ -19,7 +19,7 @@ use Rattle.rules.proofs.Wholeness.{block_in}
 use Rattle.records.specs.declared.Blocks.{Blocks}
 use Rattle.records.specs.declared.Arms.{Arms}
 use Rattle.records.specs.declared.Graph.{Graph}
-use Rattle.records.specs.Tables.{block_at, up_to, Back, Carries, Stands}
+use Rattle.records.specs.Tables.{block_at, up_to, Back, Carries, Stands, Sound, Carried}
 
 module _ (b : Blocks) (a : Arms) where
   -- the numbers, one more at a time
@@ -154,3 +154,11 @@ module _ {n m : ℕ} {t : Graph} {g : graph.Graph} where
 
   pub stands_of : Carries n m t g → Back t → Stands n m t g
   stands_of c b = record { graph_is = c.graph_is; few = c.few; below = c.below; back = b; fits = c.fits; blocks_sized = c.blocks_sized; arms_sized = c.arms_sized }
+
+-- so with a graph that is sound and one that is carried
+module _ {t : Graph} where
+  pub sound_carried : Sound t → Carried t
+  sound_carried s = record { stands = carries_of s.stands; whole = s.whole }
+
+  pub carried_sound : Carried t → Back t → Sound t
+  carried_sound c b = record { stands = stands_of c.stands b; whole = c.whole }

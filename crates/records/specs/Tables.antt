@@ -139,9 +139,13 @@ pub record Carries (n m : ℕ) (t : Graph) (g : graph.Graph) : Type 0 where
   pub blocks_sized : BlocksSized t.b
   pub arms_sized : ArmsSized t.a
 
--- The tables carry a graph as the passes lend it: within the limits, and its arms go to blocks of its own. No pass but `heads`
--- reads `place`, so none asks that it is the way back.
+-- The tables stand for a graph as the passes lend it: within the limits, and its arms go to blocks of its own.
 pub record Sound (t : Graph) : Type 0 where
+  pub stands : Stands most.numbers most.most_arms t (tabled t)
+  pub whole : Whole (tabled t)
+
+-- The tables carry such a graph. No pass but `heads` reads `place`, so no other asks that it is the way back.
+pub record Carried (t : Graph) : Type 0 where
   pub stands : Carries most.numbers most.most_arms t (tabled t)
   pub whole : Whole (tabled t)
 

@@ -17,7 +17,7 @@ use Rattle.rules.specs.Traces.{heaviest_in}
 use Rattle.rules.proofs.Membership.{In}
 use Rattle.records.specs.declared.Arms.{Arms}
 use Rattle.records.specs.declared.Graph.{Graph}
-use Rattle.records.specs.Tables.{arm_at, arms_from, leaves, block_at, tabled, Has, Sound}
+use Rattle.records.specs.Tables.{arm_at, arms_from, leaves, block_at, tabled, Has, Carried}
 use Rattle.records.proofs.StandLaws.{in_tables}
 use Rattle.records.proofs.TableLaws.{arms_more}
 use Rattle.marks.proofs.SetLaws.{eqb_turn}
@@ -126,7 +126,7 @@ module _ (a : Arms) (n : ℕ) (before : List ℕ) where
       turn false e = refl
 
 -- ---- in a graph that has the tables
-module _ {t : Graph} (s : Sound t) (n : ℕ) (i : Of t n) where
+module _ {t : Graph} (s : Carried t) (n : ℕ) (i : Of t n) where
   known : (b : graph.Block) → In b (tabled t) → b.number ≡ n → b.arms ≡ leaves t.a n
   unfolding tabled
   known b j e = ap (λ (c : graph.Block). c.arms) (in_tables t.b t.a t.blocks b j ∙ ap (block_at t.b t.a) e ∙ sym (block_is s n i)) ∙ arms_are s n i

@@ -14,7 +14,7 @@ use Rattle.rules.specs.Traces.{Seed, seed_of, below, startable, next_seed}
 use Rattle.rules.proofs.Membership.{In}
 use Rattle.records.specs.declared.Blocks.{Blocks}
 use Rattle.records.specs.declared.Graph.{Graph}
-use Rattle.records.specs.Tables.{tabled, Sound}
+use Rattle.records.specs.Tables.{tabled, Carried}
 use Rattle.marks.specs.Sets.{member}
 use Rattle.flow.specs.Lent.{Of, Marks}
 use Rattle.flow.proofs.SoundLaws.{weight_is, cold_is}
@@ -79,7 +79,7 @@ map_same p q f h (n ∷ l) t s = rw (t n (inl refl)) (go (q n) (map_same p q f h
     go true ih = rw (s n (inl refl), ih) refl
     go false ih = ih
 
-module _ {t : Graph} (b : Blocks) (marks : t.b.marks ≡ b.marks) (weights : t.b.weight ≡ b.weight) (s : Sound t) (seen laid : List ℕ) (m : Marks seen laid)
+module _ {t : Graph} (b : Blocks) (marks : t.b.marks ≡ b.marks) (weights : t.b.weight ≡ b.weight) (s : Carried t) (seen laid : List ℕ) (m : Marks seen laid)
     (reached : List ℕ) (h : Reached t laid reached) (low n : ℕ) (i : Of t n) where
   heavy : (graph.block_at (tabled t) n).weight ≡ get_or b.weight n 0
   heavy = weight_is s n i ∙ ap (λ (l : List ℕ). get_or l n 0) weights

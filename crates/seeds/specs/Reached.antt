@@ -6,7 +6,7 @@ use Rattle.rules.specs.Lists.{foldl}
 use Rattle.rules.specs.Traces.{heaviest_in}
 use Rattle.records.specs.declared.Arms.{Arms}
 use Rattle.records.specs.declared.Graph.{Graph}
-use Rattle.records.specs.Tables.{leaves, tabled, Has, Sound}
+use Rattle.records.specs.Tables.{leaves, tabled, Has, Carried}
 use Rattle.flow.specs.Lent.{HasArms, Of}
 
 -- for every block of t the table has the heaviest arm in from a laid block
@@ -29,4 +29,4 @@ Entries a n before after = (m : ℕ) → get_or after m 0 ≡ heaviest m (get_or
 -- in every graph with these arms and this block: what held of the blocks laid before holds with n laid too
 abbrev pub Noted : Arms → ℕ → List ℕ → List ℕ → Type 0
 Noted a n before after =
-    (t : Graph) → HasArms t a → Sound t → Of t n → (laid : List ℕ) → Reached t laid before → Reached t (n ∷ laid) after
+    (t : Graph) → HasArms t a → Carried t → Of t n → (laid : List ℕ) → Reached t laid before → Reached t (n ∷ laid) after

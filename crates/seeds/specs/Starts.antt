@@ -5,7 +5,7 @@ use Rattle.rules.specs.Traces.{Seed, below, next_seed}
 use Rattle.rules.proofs.Membership.{In}
 use Rattle.records.specs.declared.Blocks.{Blocks}
 use Rattle.records.specs.declared.Graph.{Graph}
-use Rattle.records.specs.Tables.{tabled, Sound}
+use Rattle.records.specs.Tables.{tabled, Carried}
 use Rattle.marks.specs.Sets.{member}
 use Rattle.flow.specs.Lent.{Of, Marks}
 use Rattle.seeds.specs.Reached.{Reached}
@@ -40,5 +40,5 @@ block_of (Some s) = Some s.block
 -- in every graph that has these marks and weights and the blocks of this order: the block that the rules start at
 abbrev pub StartsAt : Blocks → List ℕ → List ℕ → List ℕ → ℕ → Option ℕ → Type 0
 StartsAt b order seen reached low r =
-    (t : Graph) → t.b.marks ≡ b.marks → t.b.weight ≡ b.weight → Sound t → ((n : ℕ) → In n order → Of t n) →
+    (t : Graph) → t.b.marks ≡ b.marks → t.b.weight ≡ b.weight → Carried t → ((n : ℕ) → In n order → Of t n) →
     (laid : List ℕ) → Marks seen laid → Reached t laid reached → r ≡ block_of (next_seed (tabled t) order laid low)

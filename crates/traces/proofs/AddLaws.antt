@@ -21,7 +21,7 @@ use Rattle.rules.proofs.Counting.{In→count, count→In}
 use Rattle.rules.proofs.TracesOnce.{grow_ok}
 use Rattle.rules.proofs.TracesEnd.{Extends, stops, goes, trace_ends}
 use Rattle.records.specs.declared.Graph as tables
-use Rattle.records.specs.Tables.{tabled, Sound}
+use Rattle.records.specs.Tables.{tabled, Carried}
 use Rattle.flow.specs.Lent.{Of, Marks}
 use Rattle.flow.proofs.SoundLaws.{small}
 use Rattle.connect.specs.Joined.{begin_of, end_of, traces_in}
@@ -68,7 +68,7 @@ unfolding first_or
 first_in [] h = absurd (omega (arith, h))
 first_in (x ∷ r) h = inl refl
 
-module _ {t : tables.Graph} (l : Sound t) (s : Traced) (likely low from : ℕ) (w : Growth) (h : Held t s w) (f : Free t s from) (v : Growth) (e : ℕ) (n : TurnedTo t s likely low from w v e)
+module _ {t : tables.Graph} (l : Carried t) (s : Traced) (likely low from : ℕ) (w : Growth) (h : Held t s w) (f : Free t s from) (v : Growth) (e : ℕ) (n : TurnedTo t s likely low from w v e)
     (sized : length v.made.order ≡ length w.made.order) (inside : e ≤ length w.made.order) (room : w.made.len < length w.made.ends) where
   abbrev order : List ℕ
   order = w.made.order
@@ -180,7 +180,7 @@ module _ {t : tables.Graph} (l : Sound t) (s : Traced) (likely low from : ℕ) (
           (λ q. let z : j ≡ found = omega (arith, i, q) in subst (λ (j : ℕ). begin_of more j < end_of more j) (sym z) (omega (arith, begin_same ends more found others found (omega arith), last_end, end, some)))
 
 -- ---- what is held, whatever it is
-module _ (t : tables.Graph) (l : Sound t) (likely low from : ℕ) (w v : Growth) (e : ℕ) (turns : Turned t likely low from w v e)
+module _ (t : tables.Graph) (l : Carried t) (likely low from : ℕ) (w v : Growth) (e : ℕ) (turns : Turned t likely low from w v e)
     (kept : Kept w v) (a : Adds t w from) where
   own_turn : TurnedTo t a.so_far likely low from w v e
   own_turn = turns a.so_far a.held a.free

@@ -20,7 +20,7 @@ use Rattle.rules.proofs.PlainOnce.{plain_once}
 use Rattle.rules.proofs.TracesOnce.{left, grow_ok, seed_ok}
 use Rattle.records.specs.declared.Graph.{Graph}
 use Rattle.records.specs.declared.Order.{Order}
-use Rattle.records.specs.Tables.{tabled, in_order, Sound}
+use Rattle.records.specs.Tables.{tabled, in_order, Carried}
 use Rattle.flow.specs.Lent.{Of}
 use Rattle.seeds.specs.Starts.{block_of, StartsAt}
 use Rattle.seeds.proofs.ReachedLaws.{reached_none}
@@ -48,7 +48,7 @@ nothing_held t seen starts entry m n e = record {
 }
 
 -- ---- one round
-module _ (t : Graph) (l : Sound t) (likely low : ℕ) (was : Traced) where
+module _ (t : Graph) (l : Carried t) (likely low : ℕ) (was : Traced) where
   abbrev full : Traced
   full = filled (tabled t) likely low was
 
@@ -113,12 +113,12 @@ none_of (Some e) q = absurd (let z : ◌≡◌ {A = ℕ} 0 1 = cc in omega arith
 
 -- whatever is held, so much of the round is done
 abbrev pub Going : Graph → ℕ → ℕ → Growth → Growth → Type 0
-Going t likely low w v = (l : Sound t) (s : Traced) → Held t s w → Filling t l likely low s v
+Going t likely low w v = (l : Carried t) (s : Traced) → Held t s w → Filling t l likely low s v
 
 pub going_first : (t : Graph) (likely low : ℕ) (w : Growth) → Going t likely low w w
 going_first t likely low w l s h = begins t l likely low s w h
 
-module _ (t : Graph) (l : Sound t) (likely low : ℕ) (w v : Growth) (g : Going t likely low w v) (o : Order) (p : Plain t o) (r : Option ℕ) (says : StartsAt t.b (in_order o) v.seen v.reached low r) where
+module _ (t : Graph) (l : Carried t) (likely low : ℕ) (w v : Growth) (g : Going t likely low w v) (o : Order) (p : Plain t o) (r : Option ℕ) (says : StartsAt t.b (in_order o) v.seen v.reached low r) where
   own : (m : ℕ) → In m (order (tabled t)) → Of t m
   own m j = count→In m (numbers_of (tabled t)) (omega (arith, plain_once (tabled t) l.whole (once_listed l) m, In→count m (order (tabled t)) j))
 

@@ -27,7 +27,7 @@ use Rattle.rules.proofs.Wholeness.{Whole, block_in, arm_target}
 use Rattle.rules.proofs.TracesOnce.{along_ok}
 use Rattle.rules.proofs.TracesEnd.{Extends, stops, goes, trace_ends}
 use Rattle.records.specs.declared.Graph as tables
-use Rattle.records.specs.Tables.{arm_at, tabled, Sound}
+use Rattle.records.specs.Tables.{arm_at, tabled, Carried}
 use Rattle.flow.specs.Lent.{Of, Marks, arm_of}
 use Rattle.flow.proofs.PartLaws.{get_in}
 use Rattle.flow.proofs.SoundLaws.{small, runs_self, flows_self}
@@ -165,7 +165,7 @@ module _ (t : tables.Graph) (s : Traced) (likely low from start : ℕ) (was : Li
     own_more m (inr j) = h.own m j
 
     -- each block is laid once: there is room
-    pub room_for : Sound t → e < numbers
+    pub room_for : Carried t → e < numbers
     room_for l = omega (arith, h.long, no_more l (n ∷ h.laid) once_more own_more, few_blocks l)
 
     module _ (seen' reached' order' : List ℕ) (fits : e < length was) (before : start ≤ length was)
@@ -250,10 +250,10 @@ module _ (t : tables.Graph) (s : Traced) (likely low from start : ℕ) (was : Li
     turned r q = rw (kept, behind, q ∙ ap (rotate (tabled t) (whole ++ s.laid) s.starts) trace_is) refl
 
     -- what is turned are numbers of blocks
-    pub trace_below : Sound t → Below (between start e order)
+    pub trace_below : Carried t → Below (between start e order)
     trace_below l i = rw trace_is (split_lt i (length whole) (λ k. omega (arith, small l (get_or whole i 0) (h.own (get_or whole i 0) (get_in whole i k)))) (λ k. omega (arith, get_or-eq_default whole 0 k)))
 
--- ---- in a sound graph, whatever is held, the trace is on its way
+-- ---- in a carried graph, whatever is held, the trace is on its way
 abbrev pub Grows : tables.Graph → ℕ → ℕ → ℕ → Growth → List ℕ → List ℕ → List ℕ → ℕ → ℕ → Type 0
 Grows t likely low from w seen reached order e n = (s : Traced) → Held t s w → Free t s from → Going t s likely low from (start_of w) w.made.order seen reached order e n
 
@@ -269,7 +269,7 @@ pub record Next (t : tables.Graph) (w : Growth) (e n : ℕ) : Type 0 where
   pub behind : start_of w ≤ e
   pub inside : e < length w.made.order
 
-module _ (t : tables.Graph) (l : Sound t) (likely low from : ℕ) (w : Growth) where
+module _ (t : tables.Graph) (l : Carried t) (likely low from : ℕ) (w : Growth) where
   pub grows_first : Grows t likely low from w w.seen w.reached w.made.order (start_of w) from
   grows_first s h f = sets_out t s likely low from (start_of w) w.made.order l.whole w.seen w.reached (ready l s w h from f)
 

@@ -16,7 +16,7 @@ use Rattle.rules.proofs.Membership.{In, mem→, test}
 use Rattle.rules.proofs.Counting.{Once, count, In→count, count→In, count_zero, fresh, no_longer}
 use Rattle.rules.proofs.TracesOnce.{Good}
 use Rattle.records.specs.declared.Graph.{Graph}
-use Rattle.records.specs.Tables.{tabled, Sound}
+use Rattle.records.specs.Tables.{tabled, Carried}
 use Rattle.records.proofs.StandLaws.{once_apart}
 use Rattle.records.proofs.TableLaws.{up_to_length}
 use Rattle.flow.specs.Lent.{Of, Marks}
@@ -60,7 +60,7 @@ pub record Ready (t : Graph) (s : Traced) (from start : ℕ) (seen reached : Lis
   pub block : Of t from
   pub new : T (not (mem from s.laid))
 
-module _ {t : Graph} (l : Sound t) where
+module _ {t : Graph} (l : Carried t) where
   pub once_listed : Once (numbers_of (tabled t))
   unfolding tabled
   once_listed = once_apart t.b t.a t.blocks l.stands.once

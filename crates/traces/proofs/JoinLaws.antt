@@ -11,7 +11,7 @@ use Rattle.rules.proofs.Counting.{count, no_longer}
 use Rattle.rules.proofs.TracesOnce.{traces_once}
 use Rattle.records.specs.declared.Graph.{Graph}
 use Rattle.records.specs.declared.Order.{Order}
-use Rattle.records.specs.Tables.{tabled, in_order, Sound}
+use Rattle.records.specs.Tables.{tabled, in_order, Carried}
 use Rattle.records.proofs.TableLaws.{up_to_length}
 use Rattle.flow.proofs.SoundLaws.{runs_self}
 use Rattle.connect.specs.Joined.{JoinedBy}
@@ -20,7 +20,7 @@ use Rattle.traces.specs.Held.{Held}
 use Rattle.traces.specs.Rounds.{all_traced}
 use Rattle.traces.proofs.HeldLaws.{once_listed, laid_own}
 
-module _ (t : Graph) (l : Sound t) (w : Growth) (h : Held t (all_traced (tabled t)) w) where
+module _ (t : Graph) (l : Carried t) (w : Growth) (h : Held t (all_traced (tabled t)) w) where
   -- no block is left out
   all_count : (k : ℕ) → count k (all_traced (tabled t)).laid ≡ count k (numbers_of (tabled t))
   unfolding traces

@@ -13,7 +13,7 @@ use Rattle.rules.specs.Graph as graph
 use Rattle.rules.specs.Traces.{Round, round_one, rounds, entered_weight, floor_of, Traced, no_traces, trace_from, in_round, entry_trace}
 use Rattle.rules.proofs.Wholeness.{entry_in}
 use Rattle.records.specs.declared.Graph.{Graph}
-use Rattle.records.specs.Tables.{tabled, Sound}
+use Rattle.records.specs.Tables.{tabled, Carried}
 use Rattle.flow.proofs.SoundLaws.{weight_is}
 use Rattle.traces.specs.declared.Round as ours
 use Rattle.traces.specs.declared.Growth.{Growth}
@@ -34,7 +34,7 @@ pub no_weight : (g : graph.Graph) → graph.entry g ≡ None → once ≡ entere
 unfolding entered_weight
 no_weight g e = rw (e, entered_weight) refl
 
-pub its_weight : (t : Graph) (l : Sound t) (n : ℕ) → graph.entry (tabled t) ≡ Some n → get_or t.b.weight n 0 ≡ entered_weight (tabled t)
+pub its_weight : (t : Graph) (l : Carried t) (n : ℕ) → graph.entry (tabled t) ≡ Some n → get_or t.b.weight n 0 ≡ entered_weight (tabled t)
 unfolding entered_weight
 its_weight t l n e = sym (weight_is l n (entry_in (tabled t) n e)) ∙ rw (e, entered_weight) refl
 

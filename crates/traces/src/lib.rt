@@ -7,7 +7,7 @@ ghost use Rattle.rules.specs.Join.{connect};
 ghost use Rattle.rules.specs.Traces.{entered_weight, no_traces, entry_trace, traces};
 ghost use Rattle.rules.specs.Graph as graph;
 ghost use Rattle.records.specs.declared.Graph.{Graph};
-ghost use Rattle.records.specs.Tables.{tabled, in_order, Sound};
+ghost use Rattle.records.specs.Tables.{tabled, in_order, Carried};
 ghost use Rattle.traces.specs.Held.{Held, Holds, Steps, Adds, Added};
 ghost use Rattle.traces.specs.Growing.{Kept, Turned};
 ghost use Rattle.traces.specs.Rounds.{Plain, filled, all_rounds, all_traced};
@@ -97,7 +97,7 @@ impl Growth {
 // The trace from a block that is not laid, behind those found, and turned as it ends. The place behind it: it goes up with
 // the blocks, and no count of them is known before the loop ends.
 fn trace(g: &Graph, bar: Bar, from: u16, w: &mut Growth) -> usize
-    requires sound { Sound g.now }
+    requires sound { Carried g.now }
     requires adds { Adds g.now w.old from }
     ensures kept { Kept w.old w.new }
     ensures turned { Turned g.now bar.likely bar.low from w.old w.new result }
@@ -121,7 +121,7 @@ fn trace(g: &Graph, bar: Bar, from: u16, w: &mut Growth) -> usize
 // One trace more, from a block that is not laid, behind those found.
 #[tactic(auto, using(crate::proofs::AddLaws::add_steps))]
 fn add_trace(g: &Graph, bar: Bar, from: u16, w: &mut Growth)
-    requires sound { Sound g.now }
+    requires sound { Carried g.now }
     requires adds { Adds g.now w.old from }
     ensures added { Added g.now bar.likely bar.low from w.old w.new }
     ensures len { w.new.made.len ≡ w.old.made.len + 1 }
@@ -136,7 +136,7 @@ fn add_trace(g: &Graph, bar: Bar, from: u16, w: &mut Growth)
 
 // Traces behind those found, for as long as a block of the plain order can start one.
 fn fill(g: &Graph, plain: &Order, bar: Bar, w: &mut Growth)
-    requires sound { Sound g.now }
+    requires sound { Carried g.now }
     requires plain { Plain g.now plain.now }
     requires holds { Holds g.now w.old }
     ensures { Steps g.now (filled (tabled g.now) bar.likely bar.low) w.old w.new }
@@ -148,7 +148,7 @@ fn fill(g: &Graph, plain: &Order, bar: Bar, w: &mut Growth)
 
 // "Round one starts at the entry": its trace, where there is an entry, with nothing laid before.
 fn enter(g: &Graph, entered: u64, w: &mut Growth)
-    requires sound { Sound g.now × (entered ≡ entered_weight (tabled g.now)) }
+    requires sound { Carried g.now × (entered ≡ entered_weight (tabled g.now)) }
     requires held { Held g.now no_traces w.old }
     ensures { Held g.now (entry_trace (tabled g.now)) w.new }
 {
@@ -159,7 +159,7 @@ fn enter(g: &Graph, entered: u64, w: &mut Growth)
 
 // The traces of all rounds behind those found.
 fn rounds(g: &Graph, plain: &Order, entered: u64, w: &mut Growth)
-    requires sound { Sound g.now × (entered ≡ entered_weight (tabled g.now)) }
+    requires sound { Carried g.now × (entered ≡ entered_weight (tabled g.now)) }
     requires plain { Plain g.now plain.now }
     requires holds { Holds g.now w.old }
     ensures { Steps g.now (all_rounds (tabled g.now)) w.old w.new }
@@ -171,7 +171,7 @@ fn rounds(g: &Graph, plain: &Order, entered: u64, w: &mut Growth)
 
 // "entry weight (ONCE if no entry)"
 fn entered_weight(g: &Graph, entry: Option<u16>) -> u64
-    requires { Sound g.now × (entry ≡ graph.entry (tabled g.now)) }
+    requires { Carried g.now × (entry ≡ graph.entry (tabled g.now)) }
     ensures { result ≡ entered_weight (tabled g.now) }
 {
     match entry {
@@ -182,7 +182,7 @@ fn entered_weight(g: &Graph, entry: Option<u16>) -> u64
 
 // All traces, with nothing laid before.
 fn find(g: &Graph, plain: &Order, w: &mut Growth)
-    requires sound { Sound g.now }
+    requires sound { Carried g.now }
     requires plain { Plain g.now plain.now }
     requires held { Held g.now no_traces w.old }
     ensures { Held g.now (all_traced (tabled g.now)) w.new }
@@ -194,7 +194,7 @@ fn find(g: &Graph, plain: &Order, w: &mut Growth)
 
 // The blocks in the order of their traces, joined.
 pub fn traces(g: &Graph) -> Order
-    requires { Sound g.now }
+    requires { Carried g.now }
     ensures { (in_order result ≡ connect (tabled g.now) (traces (tabled g.now))) × (result.len ≡ g.now.blocks) }
 {
     let plain = walks::order(g);

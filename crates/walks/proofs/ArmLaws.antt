@@ -11,7 +11,7 @@ use Rattle.records.specs.declared.Graph.{Graph}
 use Rattle.records.specs.Tables.{arm_at, arms_from, leaves, block_at, tabled}
 use Rattle.records.proofs.TableLaws.{arms_more}
 use Rattle.records.proofs.StandLaws.{in_listed, find_in}
-use Rattle.walks.specs.Walking.{Fitting, ArmsOf}
+use Rattle.walks.specs.Walking.{Walkable, ArmsOf}
 
 -- where n arms from arm f on go, the last first
 unfoldable pub last_first : List ℕ → ℕ → ℕ → List ℕ
@@ -56,7 +56,7 @@ module _ {a : Arms} {h : graph.Graph} (has : ArmsOf a h) (n : ℕ) (i : In n (nu
   todo_few = omega (arith, todo_length, has.within n i)
 
 -- ---- in the graph that they carry
-module _ (t : Graph) (s : Fitting t) where
+module _ (t : Graph) (s : Walkable t) where
   pub low : (n : ℕ) → In n (numbers_of (tabled t)) → n < blocks
   unfolding tabled
   low n i = let r = in_listed t.b t.a n t.blocks i in omega (arith, s.stands.below r.0 r.1, r.2)

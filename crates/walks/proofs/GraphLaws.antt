@@ -12,17 +12,17 @@ use Rattle.rules.proofs.PlainOnce.{plain_once}
 use Rattle.rules.proofs.PlainVisit.{todo_listed}
 use Rattle.rules.proofs.TwoWalks.{finished}
 use Rattle.records.specs.declared.Graph.{Graph}
-use Rattle.records.specs.Tables.{tabled, Sound, in_order}
-use Rattle.records.proofs.StandLaws.{numbers_are, once_apart}
+use Rattle.records.specs.Tables.{tabled, Back, Sound, Carried, in_order}
+use Rattle.records.proofs.StandLaws.{numbers_are, once_apart, carries_of, stands_of, sound_carried}
 use Rattle.walks.specs.declared.Walk.{Walk}
-use Rattle.walks.specs.Walking.{Fitting, Counted, Shows, entered, all_visited, unmarked}
+use Rattle.walks.specs.Walking.{Fitting, Walkable, Counted, Shows, entered, all_visited, unmarked}
 use Rattle.walks.proofs.ArmLaws.{low}
 use Rattle.walks.proofs.OrderLaws.{keep_same, keep_every}
 use Rattle.walks.proofs.RootLaws.{all_seen}
 
 -- a graph within the limits is within the tables' room
-pub sound_fits : (t : Graph) → Sound t → Fitting t
-sound_fits t s = record {
+pub carried_walks : (t : Graph) → Carried t → Walkable t
+carried_walks t s = record {
   stands = record {
     graph_is = s.stands.graph_is;
     few = omega (arith, s.stands.few);
@@ -35,7 +35,16 @@ sound_fits t s = record {
   whole = s.whole;
 }
 
-module _ (t : Graph) (s : Fitting t) where
+pub fitting_walks : {t : Graph} → Fitting t → Walkable t
+fitting_walks s = record { stands = carries_of s.stands; whole = s.whole }
+
+pub walks_fitting : {t : Graph} → Walkable t → Back t → Fitting t
+walks_fitting s b = record { stands = stands_of s.stands b; whole = s.whole }
+
+pub sound_fits : (t : Graph) → Sound t → Fitting t
+sound_fits t s = walks_fitting (carried_walks t (sound_carried s)) s.stands.back
+
+module _ (t : Graph) (s : Walkable t) where
   pub numbers : numbers_of (tabled t) ≡ take t.blocks t.b.listed
   unfolding tabled
   numbers = numbers_are t.b t.a t.blocks (omega (arith, s.stands.few, s.stands.blocks_sized.listed))

@@ -4,7 +4,7 @@ use Rattle.limits.specs.Limits.{blocks, arms}
 use Rattle.marks.specs.Sets.{member, size}
 use Rattle.records.specs.declared.Arms.{Arms}
 use Rattle.records.specs.declared.Graph.{Graph}
-use Rattle.records.specs.Tables.{leaves, tabled, Carries, in_order}
+use Rattle.records.specs.Tables.{leaves, tabled, Stands, Carries, in_order}
 use Rattle.rules.specs.Lists.{keep, foldl, mem}
 use Rattle.rules.specs.Graph as graph
 use Rattle.rules.specs.Graph.{numbers_of, entry}
@@ -16,8 +16,13 @@ use Rattle.rules.proofs.StackWalk as machine
 use Rattle.stack.specs.declared.Frame.{Frame}
 use Rattle.walks.specs.declared.Walk.{Walk}
 
--- The tables carry a graph within their room, and its arms go to blocks of its own.
+-- The tables stand for a graph within their room, and its arms go to blocks of its own.
 pub record Fitting (t : Graph) : Type 0 where
+  pub stands : Stands blocks arms t (tabled t)
+  pub whole : Whole (tabled t)
+
+-- The tables carry such a graph, wherever `place` says that its blocks are listed.
+pub record Walkable (t : Graph) : Type 0 where
   pub stands : Carries blocks arms t (tabled t)
   pub whole : Whole (tabled t)
 

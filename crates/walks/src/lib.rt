@@ -6,8 +6,8 @@ ghost use Rattle.limits.specs.Limits.{blocks};
 ghost use Rattle.rules.specs.PlainOrder as rules;
 ghost use Rattle.rules.proofs.PlainVisit.{nothing};
 ghost use Rattle.rules.proofs.TwoWalks as kosaraju;
-ghost use Rattle.records.specs.Tables.{Sound, tabled, in_order};
-ghost use Rattle.walks.specs.Walking.{Fitting, Begins, LeadsIn, Counted, Shows, Visits, entered, unmarked, all_visited};
+ghost use Rattle.records.specs.Tables.{Carried, tabled, in_order};
+ghost use Rattle.walks.specs.Walking.{Walkable, Begins, LeadsIn, Counted, Shows, Visits, entered, unmarked, all_visited};
 
 use limits::BLOCKS;
 use marks::Set;
@@ -90,7 +90,7 @@ pub fn visit(g: &Graph, root: u16, room: &mut Room, w: &mut Walk)
 
 // The walk from the entry, if there is one; nothing is walked before.
 fn reach(g: &Graph, w: &mut Walk)
-    requires { Fitting g.now × Counted 0 w.old × Shows nothing w.old }
+    requires { Walkable g.now × Counted 0 w.old × Shows nothing w.old }
     ensures { Counted 0 w.new × Shows (entered (tabled g.now)) w.new }
 {
     let Some(entry) = g.entry() else {
@@ -102,7 +102,7 @@ fn reach(g: &Graph, w: &mut Walk)
 
 // The walk from each listed block in turn; nothing is walked before.
 fn visit_all(g: &Graph, w: &mut Walk)
-    requires { Fitting g.now × Counted 0 w.old × Shows nothing w.old }
+    requires { Walkable g.now × Counted 0 w.old × Shows nothing w.old }
     ensures { Counted 0 w.new × Shows (all_visited (tabled g.now)) w.new }
 {
     let mut room = stack::EMPTY;
@@ -134,7 +134,7 @@ fn unreached(g: &Graph, seen: &Set, o: &mut Order)
 
 // Depth-first from the entry, last arm first, in reverse finishing order; then the unreached blocks as listed.
 pub fn order(g: &Graph) -> Order
-    requires { Sound g.now }
+    requires { Carried g.now }
     ensures { (in_order result ≡ rules.order (tabled g.now)) × (result.len ≡ g.now.blocks) }
 {
     let mut w = Walk::new();
@@ -146,7 +146,7 @@ pub fn order(g: &Graph) -> Order
 
 // The first walk of `cycles`: from each listed block in turn, what is finished, the last first.
 pub fn finished(g: &Graph) -> Order
-    requires { Fitting g.now }
+    requires { Walkable g.now }
     ensures { (in_order result ≡ kosaraju.finished (tabled g.now)) × (result.len ≡ g.now.blocks) }
 {
     let mut w = Walk::new();

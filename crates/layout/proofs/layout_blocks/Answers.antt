@@ -1,8 +1,10 @@
 -- `layout::layout_blocks` meets its contract: refused, or what is asked for laid.
 use Rattle.std.proofs.Common.{◌∙◌, ap, sym}
 use Rattle.records.specs.declared.Graph.{Graph}
+use Rattle.records.proofs.StandLaws.{sound_carried}
 use Rattle.exits.proofs.Finished.{empty_unlaid}
 use Rattle.layout.proofs.BackLaws.{none_read}
+use Rattle.layout.proofs.BlockLaws.{ready_arrangeable}
 use Rattle.layout.proofs.FileLaws.{layout_refused, can_forward, ready, fit, count_made, file_laid}
 use Rattle.layout.proofs.layout_blocks.Goals as goal
 
@@ -18,12 +20,13 @@ returns-in-Err c =
 pub forwarded-moved-requires : goal.forwarded-moved-requires
 forwarded-moved-requires c =
     let x = c.args in
-    can_forward x.input.now x.out.now x.forward x.reorder _ _ c.read.ensures _ c.in_default.is
+    let f = can_forward x.input.now x.out.now x.forward x.reorder _ _ c.read.ensures _ c.in_default.is in
+    (sound_carried f.0, f.1)
 
 pub blocks-requires : goal.blocks-requires
 blocks-requires c =
     let x = c.args in
-    record { ready = ready x.input.now x.out.now x.forward x.reorder _ _ c.read.ensures _ c.in_default.is _ _ c.forwarded-moved.ensures; unlaid = rw c.empty-laid.ensures empty_unlaid }
+    record { ready = ready_arrangeable (ready x.input.now x.out.now x.forward x.reorder _ _ c.read.ensures _ c.in_default.is _ _ c.forwarded-moved.ensures); unlaid = rw c.empty-laid.ensures empty_unlaid }
 
 pub write_laid-requires : goal.write_laid-requires
 write_laid-requires c =

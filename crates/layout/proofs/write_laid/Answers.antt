@@ -1,6 +1,6 @@
 -- `layout::write_laid` meets its contract: short of room, or written with its heads.
 use Rattle.std.proofs.Common.{arith, ◌∙◌}
-use Rattle.layout.proofs.WriteLaws.{own, laid_few, laid_short, laid_room, can_head, can_write}
+use Rattle.layout.proofs.WriteLaws.{laid_few, laid_short, laid_room, can_head, can_write}
 use Rattle.layout.proofs.write_laid.Goals as goal
 
 pub overflow_add-bytes : goal.overflow_add-bytes
@@ -15,7 +15,7 @@ returns-then-out-bytes c b g h f e =
     (c.short.ensures ∙ s.0, s.1)
 
 pub heads-heads-requires : goal.heads-heads-requires
-heads-heads-requires c = (can_head c.requires.placed c.requires.fit, (own c.requires.placed).back)
+heads-heads-requires c = can_head c.requires.placed c.requires.fit
 
 pub write-requires : goal.write-requires
 write-requires c = record { heads = c.heads-heads.ensures; room = can_write c.requires.placed c.requires.fit _ c.if-out-bytes.false }

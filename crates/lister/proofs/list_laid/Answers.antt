@@ -1,13 +1,14 @@
 -- `lister::list_laid` meets its contract: the heads, the loops, and the lines.
+use Rattle.cycles.proofs.StandingLaws.{linkable_gathers}
 use Rattle.layout.proofs.WriteLaws.{own, laid_few, can_head}
 use Rattle.lister.proofs.ListLaws.{can_print, printed}
 use Rattle.lister.proofs.list_laid.Goals as goal
 
 pub heads-heads-requires : goal.heads-heads-requires
-heads-heads-requires c = let w = c.requires.writable in (can_head w.placed w.fit, (own w.placed).back)
+heads-heads-requires c = let w = c.requires.writable in can_head w.placed w.fit
 
 pub cycles-piece-requires : goal.cycles-piece-requires
-cycles-piece-requires c = let w = c.requires.writable in can_head w.placed w.fit
+cycles-piece-requires c = let w = c.requires.writable in linkable_gathers (can_head w.placed w.fit)
 
 pub looped-loops-requires : goal.looped-loops-requires
 looped-loops-requires c = let w = c.requires.writable in ((laid_few w.placed).0, (own w.placed).below)

@@ -2,7 +2,7 @@
 use Rattle.std.proofs.Common.{ℕ, ◌∙◌, sym, ap, subst, arith}
 use Rattle.rules.specs.Graph.{is_cold}
 use Rattle.cold.specs.Ways.{links_of, Counted}
-use Rattle.cold.proofs.WayLaws.{counted_none, ins_adds, ins_more, cold_adds, cold_more, cold_none}
+use Rattle.cold.proofs.WayLaws.{counted_none, adds_adding, ins_adds, ins_more, cold_adds, cold_more, cold_none}
 use Rattle.cold.proofs.ways.Ways.count.Goals as goal
 use Rattle.cold.proofs.ways.Ways.count.Goals.{then-is_cold, else-is_cold}
 
@@ -12,13 +12,13 @@ loop-i-init c = counted_none (links_of c.args.g.now) c.args.g.now.b.marks
 pub add_arms-requires : goal.add_arms-requires
 add_arms-requires c =
     let l = c.loop-i in
-    ins_adds (links_of c.args.g.now) c.requires l.i c.loop-i-test.true l.ways.ins l.invariant.ins
+    adds_adding (ins_adds (links_of c.args.g.now) c.requires l.i c.loop-i-test.true l.ways.ins l.invariant.ins)
 
 pub add_arms-requires-then-is_cold : goal.add_arms-requires-then-is_cold
 add_arms-requires-then-is_cold c =
     let g = c.args.g.now in
     let l = c.loop-i in
-    cold_adds (links_of g) c.requires l.i c.loop-i-test.true g.b.marks l.ways.cold l.invariant.cold (sym (c.is_cold.ensures ∙ ap is_cold c.marks_of.ensures) ∙ c.if-is_cold.true)
+    adds_adding (cold_adds (links_of g) c.requires l.i c.loop-i-test.true g.b.marks l.ways.cold l.invariant.cold (sym (c.is_cold.ensures ∙ ap is_cold c.marks_of.ensures) ∙ c.if-is_cold.true))
 
 pub loop-i-preserved : goal.loop-i-preserved
 loop-i-preserved c =
