@@ -26,7 +26,8 @@ forwarded-moved-requires c =
 pub blocks-requires : goal.blocks-requires
 blocks-requires c =
     let x = c.args in
-    record { ready = ready_arrangeable (ready x.input.now x.out.now x.forward x.reorder _ _ c.read.ensures _ c.in_default.is _ _ c.forwarded-moved.ensures); unlaid = rw c.empty-laid.ensures empty_unlaid }
+    let r = ready x.input.now x.out.now x.forward x.reorder _ _ c.read.ensures _ c.in_default.is _ _ c.forwarded-moved.ensures in
+    record { ready = ready_arrangeable r; unlaid = rw c.empty-laid.ensures empty_unlaid }
 
 pub write_laid-requires : goal.write_laid-requires
 write_laid-requires c =
